@@ -1,0 +1,135 @@
+//! What each function is to answer, and when two numbers agree.
+//!
+//! The Rust's functions of numbers have the C signatures of ours, so that
+//! both are called, and timed, through the same kind of pointer.
+
+/// Paper 01's rule: equal bits, both NaN, or both zero.
+#[allow(dead_code)]
+pub fn matches(judge: f64, ours: f64) -> bool {
+    judge.to_bits() == ours.to_bits() || (judge.is_nan() && ours.is_nan()) || (judge == 0.0 && ours == 0.0)
+}
+
+/// Equal bits, for results whose zeros have their sign fixed.
+pub fn equal(judge: f64, ours: f64) -> bool {
+    judge.to_bits() == ours.to_bits()
+}
+
+pub extern "C" fn sqrt(x: f64) -> f64 {
+    x.sqrt()
+}
+
+pub extern "C" fn abs(x: f64) -> f64 {
+    x.abs()
+}
+
+pub extern "C" fn min(x: f64, y: f64) -> f64 {
+    x.min(y)
+}
+
+pub extern "C" fn max(x: f64, y: f64) -> f64 {
+    x.max(y)
+}
+
+pub extern "C" fn narrow(x: f64) -> f32 {
+    x as f32
+}
+
+pub extern "C" fn widen(x: f32) -> f64 {
+    x as f64
+}
+
+/// The refusal of a point off the grid.
+pub const OFF_GRID: u32 = 7;
+
+/// The largest size of a grid coordinate.
+const LARGEST: u128 = 65_536;
+
+/// The whole centimetres of a point in metres, by whole numbers alone after
+/// the one rounded product.
+pub fn grid(p: &[f64], out: &mut [f64]) -> u32 {
+    let mut whole = [0.0; 3];
+    for (whole, metres) in whole.iter_mut().zip(p) {
+        match nearest_whole(metres * 100.0) {
+            Some(n) => *whole = n as f64,
+            None => return OFF_GRID,
+        }
+    }
+    out.copy_from_slice(&whole);
+    0
+}
+
+/// The whole number nearest to `x`, halves away from zero, if `x` is finite
+/// and that number is on the grid.
+fn nearest_whole(x: f64) -> Option<i64> {
+    let bits = x.to_bits();
+    let (exponent, fraction) = ((bits >> 52 & 0x7ff) as i32, bits & ((1 << 52) - 1));
+    // The size of x is significand · 2^scale.
+    let (significand, scale) = match exponent {
+        0x7ff => return None,
+        0 => (fraction, -1074),
+        _ => (fraction | 1 << 52, exponent - 1075),
+    };
+    let size = match scale {
+        // At least 2^52.
+        0.. => return None,
+        // (2 · significand + 2^-scale) / 2^(1 - scale), rounded down.
+        -60..0 => ((significand as u128) * 2 + (1 << -scale)) >> (1 - scale),
+        // Below 2^53 / 2^61, which is less than a half.
+        _ => 0,
+    };
+    let signed = if x < 0.0 { -(size as i64) } else { size as i64 };
+    (size <= LARGEST).then_some(signed)
+}
+
+/// The grid as Rust would have it, with `f64::round`, to time against.
+#[inline(never)]
+pub fn grid_by_round(p: &[f64], out: &mut [f64]) -> u32 {
+    let (&[x, y, z], [a, b, c]) = (p, out) else {
+        return if p.len() != 3 { 1 } else { 2 };
+    };
+    let whole = [x, y, z].map(|metres| (metres * 100.0).round());
+    if !whole.iter().all(|n| n.abs() <= LARGEST as f64) {
+        return OFF_GRID;
+    }
+    // A sum with +0 turns -0 into +0.
+    [*a, *b, *c] = whole.map(|n| n + 0.0);
+    0
+}
+
+#[cfg(test)]
+mod tests {
+    use super::*;
+    use crate::inputs::{self, Rng};
+
+    #[test]
+    fn the_papers_grid_points() {
+        let centimetres = |x: f64| {
+            let mut out = [9.0; 3];
+            (grid(&[x; 3], &mut out), out[0].to_bits())
+        };
+        let passes = |n: f64| (0, n.to_bits());
+        let refused = (OFF_GRID, 9.0_f64.to_bits());
+        assert_eq!(centimetres(0.125), passes(13.0));
+        assert_eq!(centimetres(-0.125), passes(-13.0));
+        assert_eq!(centimetres(655.0), passes(65_500.0));
+        assert_eq!(centimetres(655.36), passes(65_536.0));
+        assert_eq!(centimetres(656.0), refused);
+        assert_eq!(centimetres(-0.004), passes(0.0));
+        assert_eq!(centimetres(-0.0), passes(0.0));
+        assert_eq!(centimetres(f64::NAN), refused);
+        assert_eq!(centimetres(f64::NEG_INFINITY), refused);
+        assert_eq!(centimetres(f64::MAX), refused);
+        assert_eq!(centimetres(f64::from_bits(1)), passes(0.0));
+    }
+
+    #[test]
+    fn the_exact_grid_is_that_of_round() {
+        for case in 0..2_000_000 {
+            let x = f64::from_bits(inputs::metres(&mut Rng::at(1, case)));
+            let (mut exact, mut round) = ([9.0; 3], [9.0; 3]);
+            let answers = (grid(&[x; 3], &mut exact), grid_by_round(&[x; 3], &mut round));
+            assert_eq!(answers.0, answers.1, "{x:e}");
+            assert_eq!(exact.map(f64::to_bits), round.map(f64::to_bits), "{x:e}");
+        }
+    }
+}

@@ -1,0 +1,23 @@
+-- The laws that the proofs of this crate, and of the crates above it, cite.
+pub mod Integer
+pub mod Value
+pub mod Compare
+pub mod Exact
+pub mod Quotient
+pub mod Formula
+pub mod Nan
+pub mod Magnitude
+pub mod Extremes
+pub mod Pack
+pub mod Rounding
+pub mod Fields
+pub mod Reading
+pub mod WholeRoot
+pub mod RootRounding
+pub mod NearestRoot
+pub mod SquareRoot
+pub mod Centimetres
+pub mod Refusals
+pub mod Narrowing
+pub mod Patterns
+pub mod Worked

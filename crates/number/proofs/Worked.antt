@@ -1,0 +1,61 @@
+-- Worked numbers of paper 01, computed from the definitions: the grid's, and a root that later proofs lean on. Assumes nothing.
+use mathlib.Core.Path.{_≡_, refl}
+use Prim.Native.Nat.{ℕ}
+use lib.IntN.{pos, negsuc}
+use lib.Ieee.{Float, binary64, ofBits, toBits}
+use Rattle.number.specs.Grid.{centimetres, placed}
+use Rattle.number.specs.Root.{sqrtOf}
+use Rattle.number.specs.declared.grid.Coordinate.{Coordinate}
+use Rattle.number.specs.declared.grid.Coordinate.the-variants.{On, Off}
+
+-- the coordinate of so many metres, by their bits
+abbrev metres : ℕ → Coordinate
+metres b = placed (centimetres (ofBits binary64 b))
+
+-- 0.125 gives 13
+half-up : metres 0x3fc0_0000_0000_0000 ≡ On (pos 13)
+unfolding placed lib.Ieee.mul ofBits
+half-up = refl
+
+-- -0.125 gives -13
+half-down : metres 0xbfc0_0000_0000_0000 ≡ On (negsuc 12)
+unfolding placed lib.Ieee.mul ofBits
+half-down = refl
+
+-- 655 passes
+passes : metres 0x4084_7800_0000_0000 ≡ On (pos 65500)
+unfolding placed lib.Ieee.mul ofBits
+passes = refl
+
+-- 656 is refused
+refused : metres 0x4084_8000_0000_0000 ≡ Off
+unfolding placed lib.Ieee.mul ofBits
+refused = refl
+
+-- the product just below a half, which adding a half would round to 1, gives 0
+below-half : placed (ofBits binary64 0x3fdf_ffff_ffff_ffff) ≡ On (pos 0)
+unfolding placed ofBits
+below-half = refl
+
+-- -0.004 gives a positive zero
+small-negative : metres 0xbf70_624d_d2f1_a9fc ≡ On (pos 0)
+unfolding placed lib.Ieee.mul ofBits
+small-negative = refl
+
+pub root-of-one : sqrtOf binary64 (ofBits binary64 0x3ff0_0000_0000_0000) ≡ ofBits binary64 0x3ff0_0000_0000_0000
+unfolding sqrtOf ofBits
+root-of-one = refl
+
+-- 1.4142135623730951
+root-of-two : toBits binary64 (sqrtOf binary64 (ofBits binary64 0x4000_0000_0000_0000)) ≡ 0x3ff6_a09e_667f_3bcd
+unfolding sqrtOf ofBits toBits
+root-of-two = refl
+
+-- the largest number, and the smallest
+root-of-largest : toBits binary64 (sqrtOf binary64 (ofBits binary64 0x7fef_ffff_ffff_ffff)) ≡ 0x5fef_ffff_ffff_ffff
+unfolding sqrtOf ofBits toBits
+root-of-largest = refl
+
+root-of-smallest : toBits binary64 (sqrtOf binary64 (ofBits binary64 1)) ≡ 0x1e60_0000_0000_0000
+unfolding sqrtOf ofBits toBits
+root-of-smallest = refl

@@ -1,0 +1,76 @@
+-- What a call answers, in the numbers of paper 01 ("Operations and what turns them back"). Definitions only.
+use Prim.Native.Nat.{ℕ}
+use mathlib.Core.Bool.{Bool, true, false}
+use mathlib.Core.List.{List}
+use lib.Dec.{eqb}
+use lib.ListN.{length}
+use lib.Ieee.{Float}
+use Rattle.number.specs.declared.answer.Refusal.{Refusal}
+use Rattle.number.specs.declared.answer.Refusal.the-variants.{InputLength, OutputLength, Kind, Singular, Miss, NotAProjection, OffGrid}
+use Rattle.number.specs.declared.answer.Written.{Written}
+use Rattle.number.specs.declared.answer.Written.the-variants.{Done, Refused}
+use Rattle.number.specs.declared.answer.Scalar.{Scalar}
+use Rattle.number.specs.declared.answer.Scalar.the-variants.{Value, Refused as NoValue}
+use Rattle.number.specs.declared.answer.Verdict.{Verdict}
+use Rattle.number.specs.declared.answer.Verdict.the-variants.{Yes, No, Refused as NoVerdict}
+
+-- the number of each refusal
+abbrev pub numberOf : Refusal → ℕ
+numberOf InputLength = 1
+numberOf OutputLength = 2
+numberOf Kind = 3
+numberOf Singular = 4
+numberOf Miss = 5
+numberOf NotAProjection = 6
+numberOf OffGrid = 7
+
+-- ---- an operation that writes its result into a lent slice
+
+-- What such a call leaves: 0 or the number of its refusal, and what the slice holds afterwards.
+pub record Reply : Type 0 where
+  pub status : ℕ
+  pub out : List Float
+
+abbrev pub answered : ℕ → List Float → Reply
+answered n out = record { status = n; out = out }
+
+-- a refusal preserves the slice
+abbrev pub refuse : ℕ → List Float → Reply
+refuse n out = answered n out
+
+abbrev pub write : List Float → Reply
+write v = answered 0 v
+
+-- the number of such an answer
+abbrev pub statusOf : Written → ℕ
+statusOf Done = 0
+statusOf (Refused r) = numberOf r
+
+abbrev pub reply : Written → List Float → Reply
+reply a out = answered (statusOf a) out
+
+-- ---- an operation that answers with a lone number, or with a yes or a no
+
+-- What such a call comes to: the number of its refusal, or its result.
+pub data Outcome (A : Type 0) : Type 0 where
+  refused : ℕ → Outcome A
+  result : A → Outcome A
+
+abbrev pub scalarOf : Scalar → Outcome Float
+scalarOf (Value x) = result x
+scalarOf (NoValue r) = refused (numberOf r)
+
+abbrev pub verdictOf : Verdict → Outcome Bool
+verdictOf Yes = result true
+verdictOf No = result false
+verdictOf (NoVerdict r) = refused (numberOf r)
+
+-- ---- the order of refusals: the first test that fails decides
+
+abbrev pub unless : {A : Type 0} → Bool → A → A → A
+unless true refusal rest = rest
+unless false refusal rest = refusal
+
+-- a slice has the length of its record
+abbrev pub has : ℕ → List Float → Bool
+has n s = eqb (length s) n

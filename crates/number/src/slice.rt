@@ -1,0 +1,27 @@
+// Numbers read from a lent slice, and a result stored into one.
+ghost use mathlib.Core.Path.{_≡_};
+ghost use Rattle.number.specs.Slice.{at, stored};
+
+// The number at a place; past the end a NaN.
+pub fn at(s: &[f64], i: usize) -> f64
+    ensures { λ r. ⌜ r ≡ at (now (s .entry)) i ⌝ }
+{
+    if i < s.len() {
+        return s[i];
+    }
+    0.0 / 0.0
+}
+
+// The numbers of one slice, into another of the same length; one of another length is left alone.
+pub fn store(from: &[f64], out: &mut [f64])
+    ensures { λ _. ⌜ now (out .exit) ≡ stored (now (from .entry)) (now (out .entry)) ⌝ }
+{
+    if from.len() != out.len() {
+        return;
+    }
+    let mut i: usize = 0;
+    while i < out.len() {
+        out[i] = from[i];
+        i += 1;
+    }
+}
