@@ -1,2 +1,4 @@
 // The C functions of include/gf.h: each is the operation of the same name, with the number of its answer.
+pub mod matrix_calls;
 pub mod number_calls;
+pub mod range_calls;

@@ -21,3 +21,4 @@ pub mod Refusals
 pub mod Narrowing
 pub mod Patterns
 pub mod Worked
+pub mod Calls

@@ -65,6 +65,25 @@ verdictOf Yes = result true
 verdictOf No = result false
 verdictOf (NoVerdict r) = refused (numberOf r)
 
+-- What such a call leaves where its result goes through a reference: 0 or the number of its refusal, and what stands there afterwards.
+pub record Lone (A : Type 0) : Type 0 where
+  pub status : ℕ
+  pub value : A
+
+abbrev pub lone : {A : Type 0} → ℕ → A → Lone A
+lone n x = record { status = n; value = x }
+
+-- a refusal preserves what was there
+abbrev pub put : {A : Type 0} → Outcome A → A → Lone A
+put (refused n) before = lone n before
+put (result x) before = lone 0 x
+
+-- 1 for a yes and 0 for a no
+abbrev pub putVerdict : Outcome Bool → ℕ → Lone ℕ
+putVerdict (refused n) before = lone n before
+putVerdict (result true) before = lone 0 1
+putVerdict (result false) before = lone 0 0
+
 -- ---- the order of refusals: the first test that fails decides
 
 abbrev pub unless : {A : Type 0} → Bool → A → A → A
@@ -74,3 +93,15 @@ unless false refusal rest = refusal
 -- a slice has the length of its record
 abbrev pub has : ℕ → List Float → Bool
 has n s = eqb (length s) n
+
+-- An operation that leaves a reply once its inputs have their lengths, and out the length n: "1, then 2".
+unfoldable pub leaving : Bool → ℕ → Reply → List Float → Reply
+leaving inputs n done out = unless inputs (refuse 1 out) (unless (has n out) (refuse 2 out) done)
+
+-- one that then writes its result into out
+abbrev pub writing : Bool → ℕ → List Float → List Float → Reply
+writing inputs n v out = leaving inputs n (write v) out
+
+-- One whose result comes back in its answer: "where no slice is lent for a result, 2 is skipped".
+unfoldable pub answering : {A : Type 0} → Bool → A → Outcome A
+answering inputs x = unless inputs (refused 1) (result x)

@@ -6,7 +6,7 @@ use lib.Dec.{leb}
 use lib.IntN.{ℤ, pos}
 use lib.Ieee.{Float, nan, inf, fin, binary64, up, down, ofBits, ofInt}
 use Rattle.number.specs.Arithmetic.{_⊗_}
-use Rattle.number.specs.Answer.{Reply, refuse, write, unless, has}
+use Rattle.number.specs.Answer.{Reply, refuse, write, unless, has, leaving}
 use Rattle.number.specs.Whole.{signed}
 use Rattle.number.specs.declared.grid.Coordinate.{Coordinate}
 use Rattle.number.specs.declared.grid.Coordinate.the-variants.{On, Off}
@@ -45,9 +45,7 @@ abbrev pub every : List Coordinate → Bool
 every [] = true
 every (c ∷ cs) = onGrid c && every cs
 
+-- "1, 2, then 7 if a product is not finite or its rounded size exceeds 65,536"
 unfoldable pub gridCall : List Float → List Float → Reply
 gridCall p out =
-    unless (has 3 p) (refuse 1 out)
-    (unless (has 3 out) (refuse 2 out)
-    (unless (every (coordinates p)) (refuse 7 out)
-    (write (map wholeOf (coordinates p)))))
+    leaving (has 3 p) 3 (unless (every (coordinates p)) (refuse 7 out) (write (map wholeOf (coordinates p)))) out

@@ -44,6 +44,8 @@ pub record NearestRoot (f : Format) (s : ℕ) (y : Float) : Type 0 where
   pub above : (z : Float) (Z : ℕ) → T (fits f z) → HasValue z false Z (2 ^ low f) → units < Z → 4 * s ≤ (units + Z) * (units + Z)
   pub below : (z : Float) (Z : ℕ) → T (fits f z) → HasValue z false Z (2 ^ low f) → Z < units → (units + Z) * (units + Z) ≤ 4 * s
 
+-- ---- the search
+
 -- One bit of a search for a root: by (r + b)² = r² + (2 * r + b) * b the bit b fits if what is left, counted in units of b, reaches 2 * r + b.
 abbrev pub triedOf : PartialRoot → ℕ → PartialRoot
 triedOf s b =

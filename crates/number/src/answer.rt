@@ -1,6 +1,6 @@
 // What a call answers: that it wrote its result, a lone number, a yes or a no; or why it was refused.
 ghost use mathlib.Core.Path.{_≡_};
-ghost use Rattle.number.specs.Answer.{numberOf, statusOf};
+ghost use Rattle.number.specs.Answer.{numberOf, statusOf, scalarOf, verdictOf, lone, put, putVerdict};
 
 pub enum Refusal {
     InputLength,
@@ -53,6 +53,40 @@ impl Written {
         match self {
             Written::Done => 0,
             Written::Refused(r) => r.number(),
+        }
+    }
+}
+
+impl Scalar {
+    // Its number, where it has one, to where it is lent; 0, or the number of the refusal.
+    pub fn put(self, out: &mut f64) -> u32
+        ensures { λ r. ⌜ lone r (now (out .exit)) ≡ put (scalarOf self) (now (out .entry)) ⌝ }
+    {
+        match self {
+            Scalar::Value(x) => {
+                *out = x;
+                0
+            }
+            Scalar::Refused(r) => r.number(),
+        }
+    }
+}
+
+impl Verdict {
+    // 1 for a yes and 0 for a no, to where it is lent; 0, or the number of the refusal.
+    pub fn put(self, out: &mut u32) -> u32
+        ensures { λ r. ⌜ lone r (now (out .exit)) ≡ putVerdict (verdictOf self) (now (out .entry)) ⌝ }
+    {
+        match self {
+            Verdict::Yes => {
+                *out = 1;
+                0
+            }
+            Verdict::No => {
+                *out = 0;
+                0
+            }
+            Verdict::Refused(r) => r.number(),
         }
     }
 }

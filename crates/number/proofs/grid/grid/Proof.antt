@@ -14,7 +14,7 @@ use lib.Ieee.Fits.{eq→eqb}
 use mir.Syntax.{w32}
 use mir.Val.{SFits, toZ, ofZ}
 use mir.ValLaws.{toZ-ofZ}
-use Rattle.number.specs.Answer.{Reply, refuse, write, unless, has}
+use Rattle.number.specs.Answer.{Reply, refuse, write, unless, has, leaving}
 use Rattle.number.specs.Grid.{centimetres, placed, coordinates, every, wholeOf, gridCall}
 use Rattle.number.specs.Slice.{at, stored}
 use Rattle.number.specs.declared.grid.Coordinate.{Coordinate}
@@ -28,7 +28,7 @@ abbrev decided : List Coordinate → List Float → Reply
 decided cs out = unless (every cs) (refuse 7 out) (write (map wholeOf cs))
 
 call-is : (p out : List Float) → gridCall p out ≡ unless (has 3 p) (refuse 1 out) (unless (has 3 out) (refuse 2 out) (decided (coordinates p) out))
-unfolding gridCall
+unfolding gridCall leaving
 call-is p out = refl
 
 no-input : (p out : List Float) → (length p ≡ 3 → ⊥) → refuse 1 out ≡ gridCall p out

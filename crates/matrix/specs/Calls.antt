@@ -1,0 +1,71 @@
+-- What each operation over lent slices answers and leaves, in the numbers of paper 01. Definitions only.
+-- "1 means an input slice's length differs from its record. 2 means an output slice's length differs." "Each is given only on its condition, earliest listed first."
+use mathlib.Core.Bool.{Bool, _&&_}
+use mathlib.Core.List.{List}
+use lib.Ieee.{Float}
+use Rattle.number.specs.Answer.{Reply, refuse, write, Outcome, has, leaving, writing, answering}
+use Rattle.matrix.specs.declared.inverse.Inverted.{Inverted}
+use Rattle.matrix.specs.declared.inverse.Inverted.the-variants.{Matrix, Singular}
+use Rattle.matrix.specs.Vec.{vec3Of, vec4Of, coordinates, coordinates4}
+use Rattle.matrix.specs.Matrix.{matrixOf, entries, product, transpose, determinant3, rightHanded}
+use Rattle.matrix.specs.Inverse.{inverse}
+use Rattle.matrix.specs.Transform.{direction, affine, transformed as transformedPoint, homogeneous}
+use Rattle.matrix.specs.Range.{rangeOf, bounds, isEmpty, union, intersection, midpoint, distanceSquared, transformed, corners}
+
+-- ---- matrices
+
+unfoldable pub productCall : List Float → List Float → List Float → Reply
+productCall a b out = writing (has 16 a && has 16 b) 16 (entries (product (matrixOf a) (matrixOf b))) out
+
+unfoldable pub transposeCall : List Float → List Float → Reply
+transposeCall m out = writing (has 16 m) 16 (entries (transpose (matrixOf m))) out
+
+-- "4 is singular"
+abbrev pub inverseReply : Inverted → List Float → Reply
+inverseReply (Matrix m) out = write (entries m)
+inverseReply Singular out = refuse 4 out
+
+unfoldable pub inverseCall : List Float → List Float → Reply
+inverseCall m out = leaving (has 16 m) 16 (inverseReply (inverse (matrixOf m)) out) out
+
+unfoldable pub transformCall : List Float → List Float → List Float → Reply
+transformCall m p out = writing (has 16 m && has 3 p) 3 (coordinates (transformedPoint (matrixOf m) (vec3Of p))) out
+
+unfoldable pub affineCall : List Float → List Float → List Float → Reply
+affineCall m p out = writing (has 16 m && has 3 p) 3 (coordinates (affine (matrixOf m) (vec3Of p))) out
+
+unfoldable pub homogeneousCall : List Float → List Float → List Float → Reply
+homogeneousCall m v out = writing (has 16 m && has 4 v) 4 (coordinates4 (homogeneous (matrixOf m) (vec4Of v))) out
+
+unfoldable pub directionCall : List Float → List Float → List Float → Reply
+directionCall m v out = writing (has 16 m && has 3 v) 3 (coordinates (direction (matrixOf m) (vec3Of v))) out
+
+unfoldable pub determinantCall : List Float → Outcome Float
+determinantCall m = answering (has 16 m) (determinant3 (matrixOf m))
+
+unfoldable pub rightHandedCall : List Float → Outcome Bool
+rightHandedCall m = answering (has 16 m) (rightHanded (matrixOf m))
+
+-- ---- ranges
+
+unfoldable pub isEmptyCall : List Float → Outcome Bool
+isEmptyCall r = answering (has 6 r) (isEmpty (rangeOf r))
+
+unfoldable pub unionCall : List Float → List Float → List Float → Reply
+unionCall a b out = writing (has 6 a && has 6 b) 6 (bounds (union (rangeOf a) (rangeOf b))) out
+
+unfoldable pub intersectionCall : List Float → List Float → List Float → Reply
+intersectionCall a b out = writing (has 6 a && has 6 b) 6 (bounds (intersection (rangeOf a) (rangeOf b))) out
+
+unfoldable pub midpointCall : List Float → List Float → Reply
+midpointCall r out = writing (has 6 r) 3 (coordinates (midpoint (rangeOf r))) out
+
+unfoldable pub distanceSquaredCall : List Float → List Float → Outcome Float
+distanceSquaredCall r p = answering (has 6 r && has 3 p) (distanceSquared (rangeOf r) (vec3Of p))
+
+unfoldable pub transformedCall : List Float → List Float → List Float → Reply
+transformedCall r m out = writing (has 6 r && has 16 m) 6 (bounds (transformed (rangeOf r) (matrixOf m))) out
+
+-- "Corners write 24 numbers."
+unfoldable pub cornersCall : List Float → List Float → Reply
+cornersCall r out = writing (has 6 r) 24 (corners (rangeOf r) 8) out

@@ -1,0 +1,153 @@
+// The operations on matrices, over lent slices.
+ghost use mathlib.Core.Path.{_≡_};
+ghost use Rattle.number.specs.Answer.{reply, scalarOf, verdictOf};
+ghost use Rattle.matrix.specs.Calls.{productCall, transposeCall, inverseCall, transformCall, affineCall, homogeneousCall, directionCall, determinantCall, rightHandedCall};
+use crate::inverse::Inverted;
+use crate::matrix::Mat4d;
+use crate::vec::Vec3d;
+use crate::vec::Vec4d;
+use number::answer::Refusal;
+use number::answer::Scalar;
+use number::answer::Verdict;
+use number::answer::Written;
+
+// The product of two matrices.
+pub fn product(a: &[f64], b: &[f64], out: &mut [f64]) -> Written
+    ensures { λ r. ⌜ reply r (now (out .exit)) ≡ productCall (now (a .entry)) (now (b .entry)) (now (out .entry)) ⌝ }
+{
+    if a.len() != 16 {
+        return Written::Refused(Refusal::InputLength);
+    }
+    if b.len() != 16 {
+        return Written::Refused(Refusal::InputLength);
+    }
+    if out.len() != 16 {
+        return Written::Refused(Refusal::OutputLength);
+    }
+    Mat4d::load(a).product(Mat4d::load(b)).store(out);
+    Written::Done
+}
+
+// The transpose of a matrix.
+pub fn transpose(m: &[f64], out: &mut [f64]) -> Written
+    ensures { λ r. ⌜ reply r (now (out .exit)) ≡ transposeCall (now (m .entry)) (now (out .entry)) ⌝ }
+{
+    if m.len() != 16 {
+        return Written::Refused(Refusal::InputLength);
+    }
+    if out.len() != 16 {
+        return Written::Refused(Refusal::OutputLength);
+    }
+    Mat4d::load(m).transpose().store(out);
+    Written::Done
+}
+
+// The inverse of a matrix. It is refused as singular where its determinant is not larger than 1e-12 in size.
+pub fn inverse(m: &[f64], out: &mut [f64]) -> Written
+    ensures { λ r. ⌜ reply r (now (out .exit)) ≡ inverseCall (now (m .entry)) (now (out .entry)) ⌝ }
+{
+    if m.len() != 16 {
+        return Written::Refused(Refusal::InputLength);
+    }
+    if out.len() != 16 {
+        return Written::Refused(Refusal::OutputLength);
+    }
+    let Inverted::Matrix(inverse) = Mat4d::load(m).inverse() else {
+        return Written::Refused(Refusal::Singular);
+    };
+    inverse.store(out);
+    Written::Done
+}
+
+// A point through a matrix, divided by its last number.
+pub fn transform(m: &[f64], p: &[f64], out: &mut [f64]) -> Written
+    ensures { λ r. ⌜ reply r (now (out .exit)) ≡ transformCall (now (m .entry)) (now (p .entry)) (now (out .entry)) ⌝ }
+{
+    if m.len() != 16 {
+        return Written::Refused(Refusal::InputLength);
+    }
+    if p.len() != 3 {
+        return Written::Refused(Refusal::InputLength);
+    }
+    if out.len() != 3 {
+        return Written::Refused(Refusal::OutputLength);
+    }
+    Mat4d::load(m).transform(Vec3d::load(p)).store(out);
+    Written::Done
+}
+
+// A point through a matrix whose last column is ignored.
+pub fn transform_affine(m: &[f64], p: &[f64], out: &mut [f64]) -> Written
+    ensures { λ r. ⌜ reply r (now (out .exit)) ≡ affineCall (now (m .entry)) (now (p .entry)) (now (out .entry)) ⌝ }
+{
+    if m.len() != 16 {
+        return Written::Refused(Refusal::InputLength);
+    }
+    if p.len() != 3 {
+        return Written::Refused(Refusal::InputLength);
+    }
+    if out.len() != 3 {
+        return Written::Refused(Refusal::OutputLength);
+    }
+    Mat4d::load(m).transform_affine(Vec3d::load(p)).store(out);
+    Written::Done
+}
+
+// A homogeneous point through a matrix.
+pub fn transform_homogeneous(m: &[f64], v: &[f64], out: &mut [f64]) -> Written
+    ensures { λ r. ⌜ reply r (now (out .exit)) ≡ homogeneousCall (now (m .entry)) (now (v .entry)) (now (out .entry)) ⌝ }
+{
+    if m.len() != 16 {
+        return Written::Refused(Refusal::InputLength);
+    }
+    if v.len() != 4 {
+        return Written::Refused(Refusal::InputLength);
+    }
+    if out.len() != 4 {
+        return Written::Refused(Refusal::OutputLength);
+    }
+    Mat4d::load(m)
+        .transform_homogeneous(Vec4d::load(v))
+        .store(out);
+    Written::Done
+}
+
+// A direction through a matrix.
+pub fn transform_dir(m: &[f64], v: &[f64], out: &mut [f64]) -> Written
+    ensures { λ r. ⌜ reply r (now (out .exit)) ≡ directionCall (now (m .entry)) (now (v .entry)) (now (out .entry)) ⌝ }
+{
+    if m.len() != 16 {
+        return Written::Refused(Refusal::InputLength);
+    }
+    if v.len() != 3 {
+        return Written::Refused(Refusal::InputLength);
+    }
+    if out.len() != 3 {
+        return Written::Refused(Refusal::OutputLength);
+    }
+    Mat4d::load(m).transform_dir(Vec3d::load(v)).store(out);
+    Written::Done
+}
+
+// The determinant of the upper left three by three.
+pub fn determinant3(m: &[f64]) -> Scalar
+    ensures { λ r. ⌜ scalarOf r ≡ determinantCall (now (m .entry)) ⌝ }
+{
+    if m.len() != 16 {
+        return Scalar::Refused(Refusal::InputLength);
+    }
+    Scalar::Value(Mat4d::load(m).determinant3())
+}
+
+// Whether a matrix keeps the handedness of the axes.
+pub fn is_right_handed(m: &[f64]) -> Verdict
+    ensures { λ r. ⌜ verdictOf r ≡ rightHandedCall (now (m .entry)) ⌝ }
+{
+    if m.len() != 16 {
+        return Verdict::Refused(Refusal::InputLength);
+    }
+    if Mat4d::load(m).is_right_handed() {
+        return Verdict::Yes;
+    }
+    Verdict::No
+}

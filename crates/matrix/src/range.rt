@@ -1,0 +1,229 @@
+// Boxes along the axes, each from a least to a greatest corner.
+ghost use mathlib.Core.Path.{_≡_};
+ghost use mathlib.Core.Bool.{cond};
+ghost use Rattle.matrix.specs.Range.{range, rangeOf, bounds, empty, isEmpty, union, intersection, size, midpoint, along, distanceSquared, reach, transformed, corner, corners};
+ghost use Rattle.number.specs.Arithmetic.{minOf, maxOf};
+ghost use Rattle.number.specs.Slice.{stored};
+use crate::matrix::Mat4d;
+use crate::vec::Vec3d;
+use number::order;
+use number::slice;
+use number::slice::at;
+
+pub struct Range3d {
+    pub min: Vec3d,
+    pub max: Vec3d,
+}
+
+// The squared distance of a number from the span between two others.
+fn along(p: f64, min: f64, max: f64) -> f64
+    ensures { λ r. ⌜ r ≡ along p min max ⌝ }
+{
+    if p < min {
+        return (min - p) * (min - p);
+    }
+    if p > max {
+        return (p - max) * (p - max);
+    }
+    0.0
+}
+
+fn pick(from_max: bool, min: f64, max: f64) -> f64
+    ensures { λ r. ⌜ r ≡ cond «from_max» max min ⌝ }
+{
+    if from_max {
+        return max;
+    }
+    min
+}
+
+impl Range3d {
+    // The largest number of binary32 as the least corner, and its negation as the greatest.
+    pub const EMPTY: Range3d = Range3d {
+        min: Vec3d {
+            x: 3.4028234663852886e38,
+            y: 3.4028234663852886e38,
+            z: 3.4028234663852886e38,
+        },
+        max: Vec3d {
+            x: -3.4028234663852886e38,
+            y: -3.4028234663852886e38,
+            z: -3.4028234663852886e38,
+        },
+    };
+
+    pub fn new(min: Vec3d, max: Vec3d) -> Range3d
+        ensures { λ r. ⌜ r ≡ range min max ⌝ }
+    {
+        Range3d { min, max }
+    }
+
+    pub fn default() -> Range3d
+        ensures { λ r. ⌜ r ≡ empty ⌝ }
+    {
+        Range3d::EMPTY
+    }
+
+    pub fn is_empty(self) -> bool
+        ensures { λ r. ⌜ r ≡ isEmpty self ⌝ }
+    {
+        if self.min.x > self.max.x {
+            return true;
+        }
+        if self.min.y > self.max.y {
+            return true;
+        }
+        self.min.z > self.max.z
+    }
+
+    pub fn union(self, other: Range3d) -> Range3d
+        ensures { λ r. ⌜ r ≡ union self other ⌝ }
+    {
+        if self.is_empty() {
+            return other;
+        }
+        if other.is_empty() {
+            return self;
+        }
+        Range3d {
+            min: self.min.min(other.min),
+            max: self.max.max(other.max),
+        }
+    }
+
+    pub fn intersection(self, other: Range3d) -> Range3d
+        ensures { λ r. ⌜ r ≡ intersection self other ⌝ }
+    {
+        Range3d {
+            min: self.min.max(other.min),
+            max: self.max.min(other.max),
+        }
+    }
+
+    pub fn size(self) -> Vec3d
+        ensures { λ r. ⌜ r ≡ size self ⌝ }
+    {
+        self.max.sub(self.min)
+    }
+
+    pub fn midpoint(self) -> Vec3d
+        ensures { λ r. ⌜ r ≡ midpoint self ⌝ }
+    {
+        self.min.scale(0.5).add(self.max.scale(0.5))
+    }
+
+    pub fn distance_squared(self, p: Vec3d) -> f64
+        ensures { λ r. ⌜ r ≡ distanceSquared self p ⌝ }
+    {
+        along(p.x, self.min.x, self.max.x)
+            + along(p.y, self.min.y, self.max.y)
+            + along(p.z, self.min.z, self.max.z)
+    }
+
+    // The least that the range comes to along an axis, whose column of a matrix and translation are given.
+    fn lowest(self, column: Vec3d, from: f64) -> f64
+        ensures { λ r. ⌜ r ≡ reach minOf self column from ⌝ }
+    {
+        from
+            + order::min(self.min.x * column.x, self.max.x * column.x)
+            + order::min(self.min.y * column.y, self.max.y * column.y)
+            + order::min(self.min.z * column.z, self.max.z * column.z)
+    }
+
+    fn highest(self, column: Vec3d, from: f64) -> f64
+        ensures { λ r. ⌜ r ≡ reach maxOf self column from ⌝ }
+    {
+        from
+            + order::max(self.min.x * column.x, self.max.x * column.x)
+            + order::max(self.min.y * column.y, self.max.y * column.y)
+            + order::max(self.min.z * column.z, self.max.z * column.z)
+    }
+
+    // The range that holds this one once the matrix is applied to it.
+    pub fn transformed(self, matrix: Mat4d) -> Range3d
+        ensures { λ r. ⌜ r ≡ transformed self matrix ⌝ }
+    {
+        if self.is_empty() {
+            return self;
+        }
+        let x = Vec3d {
+            x: matrix.r0.x,
+            y: matrix.r1.x,
+            z: matrix.r2.x,
+        };
+        let y = Vec3d {
+            x: matrix.r0.y,
+            y: matrix.r1.y,
+            z: matrix.r2.y,
+        };
+        let z = Vec3d {
+            x: matrix.r0.z,
+            y: matrix.r1.z,
+            z: matrix.r2.z,
+        };
+        Range3d {
+            min: Vec3d {
+                x: self.lowest(x, matrix.r3.x),
+                y: self.lowest(y, matrix.r3.y),
+                z: self.lowest(z, matrix.r3.z),
+            },
+            max: Vec3d {
+                x: self.highest(x, matrix.r3.x),
+                y: self.highest(y, matrix.r3.y),
+                z: self.highest(z, matrix.r3.z),
+            },
+        }
+    }
+
+    // The corner i, of eight: the maximum along each axis whose bit is set in i.
+    pub fn corner(self, i: usize) -> Vec3d
+        ensures { λ r. ⌜ r ≡ corner self i ⌝ }
+    {
+        Vec3d {
+            x: pick(i % 2 == 1, self.min.x, self.max.x),
+            y: pick(i / 2 % 2 == 1, self.min.y, self.max.y),
+            z: pick(i / 4 % 2 == 1, self.min.z, self.max.z),
+        }
+    }
+
+    // The first six numbers of a slice.
+    pub fn load(s: &[f64]) -> Range3d
+        ensures { λ r. ⌜ r ≡ rangeOf (now (s .entry)) ⌝ }
+    {
+        Range3d {
+            min: Vec3d::load_at(s, 0),
+            max: Vec3d::load_at(s, 3),
+        }
+    }
+
+    // Its numbers, into a slice of six.
+    pub fn store(self, out: &mut [f64])
+        ensures { λ _. ⌜ now (out .exit) ≡ stored (bounds self) (now (out .entry)) ⌝ }
+    {
+        let all = [
+            self.min.x,
+            self.min.y,
+            self.min.z,
+            self.max.x,
+            self.max.y,
+            self.max.z,
+        ];
+        slice::store(&all, out);
+    }
+
+    // The numbers of the eight corners, into a slice of 24.
+    pub fn store_corners(self, out: &mut [f64])
+        ensures { λ _. ⌜ now (out .exit) ≡ stored (corners self 8) (now (out .entry)) ⌝ }
+    {
+        let mut all = [0.0; 24];
+        let mut i: usize = 0;
+        while i < 8 {
+            let corner = self.corner(i);
+            all[3 * i] = corner.x;
+            all[3 * i + 1] = corner.y;
+            all[3 * i + 2] = corner.z;
+            i += 1;
+        }
+        slice::store(&all, out);
+    }
+}

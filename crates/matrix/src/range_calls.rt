@@ -1,0 +1,116 @@
+// The operations on ranges, over lent slices.
+ghost use mathlib.Core.Path.{_≡_};
+ghost use Rattle.number.specs.Answer.{reply, scalarOf, verdictOf};
+ghost use Rattle.matrix.specs.Calls.{isEmptyCall, unionCall, intersectionCall, midpointCall, distanceSquaredCall, transformedCall, cornersCall};
+use crate::matrix::Mat4d;
+use crate::range::Range3d;
+use crate::vec::Vec3d;
+use number::answer::Refusal;
+use number::answer::Scalar;
+use number::answer::Verdict;
+use number::answer::Written;
+
+// Whether a range holds no point.
+pub fn is_empty(range: &[f64]) -> Verdict
+    ensures { λ r. ⌜ verdictOf r ≡ isEmptyCall (now (range .entry)) ⌝ }
+{
+    if range.len() != 6 {
+        return Verdict::Refused(Refusal::InputLength);
+    }
+    if Range3d::load(range).is_empty() {
+        return Verdict::Yes;
+    }
+    Verdict::No
+}
+
+// The smallest range that holds both.
+pub fn union(a: &[f64], b: &[f64], out: &mut [f64]) -> Written
+    ensures { λ r. ⌜ reply r (now (out .exit)) ≡ unionCall (now (a .entry)) (now (b .entry)) (now (out .entry)) ⌝ }
+{
+    if a.len() != 6 {
+        return Written::Refused(Refusal::InputLength);
+    }
+    if b.len() != 6 {
+        return Written::Refused(Refusal::InputLength);
+    }
+    if out.len() != 6 {
+        return Written::Refused(Refusal::OutputLength);
+    }
+    Range3d::load(a).union(Range3d::load(b)).store(out);
+    Written::Done
+}
+
+// The range that both hold.
+pub fn intersection(a: &[f64], b: &[f64], out: &mut [f64]) -> Written
+    ensures { λ r. ⌜ reply r (now (out .exit)) ≡ intersectionCall (now (a .entry)) (now (b .entry)) (now (out .entry)) ⌝ }
+{
+    if a.len() != 6 {
+        return Written::Refused(Refusal::InputLength);
+    }
+    if b.len() != 6 {
+        return Written::Refused(Refusal::InputLength);
+    }
+    if out.len() != 6 {
+        return Written::Refused(Refusal::OutputLength);
+    }
+    Range3d::load(a).intersection(Range3d::load(b)).store(out);
+    Written::Done
+}
+
+// The point halfway between the corners.
+pub fn midpoint(range: &[f64], out: &mut [f64]) -> Written
+    ensures { λ r. ⌜ reply r (now (out .exit)) ≡ midpointCall (now (range .entry)) (now (out .entry)) ⌝ }
+{
+    if range.len() != 6 {
+        return Written::Refused(Refusal::InputLength);
+    }
+    if out.len() != 3 {
+        return Written::Refused(Refusal::OutputLength);
+    }
+    Range3d::load(range).midpoint().store(out);
+    Written::Done
+}
+
+// The squared distance from a point to the nearest point of a range.
+pub fn distance_squared(range: &[f64], p: &[f64]) -> Scalar
+    ensures { λ r. ⌜ scalarOf r ≡ distanceSquaredCall (now (range .entry)) (now (p .entry)) ⌝ }
+{
+    if range.len() != 6 {
+        return Scalar::Refused(Refusal::InputLength);
+    }
+    if p.len() != 3 {
+        return Scalar::Refused(Refusal::InputLength);
+    }
+    Scalar::Value(Range3d::load(range).distance_squared(Vec3d::load(p)))
+}
+
+// The range that holds a range once a matrix is applied to it.
+pub fn transformed(range: &[f64], m: &[f64], out: &mut [f64]) -> Written
+    ensures { λ r. ⌜ reply r (now (out .exit)) ≡ transformedCall (now (range .entry)) (now (m .entry)) (now (out .entry)) ⌝ }
+{
+    if range.len() != 6 {
+        return Written::Refused(Refusal::InputLength);
+    }
+    if m.len() != 16 {
+        return Written::Refused(Refusal::InputLength);
+    }
+    if out.len() != 6 {
+        return Written::Refused(Refusal::OutputLength);
+    }
+    Range3d::load(range).transformed(Mat4d::load(m)).store(out);
+    Written::Done
+}
+
+// The eight corners of a range.
+pub fn corners(range: &[f64], out: &mut [f64]) -> Written
+    ensures { λ r. ⌜ reply r (now (out .exit)) ≡ cornersCall (now (range .entry)) (now (out .entry)) ⌝ }
+{
+    if range.len() != 6 {
+        return Written::Refused(Refusal::InputLength);
+    }
+    if out.len() != 24 {
+        return Written::Refused(Refusal::OutputLength);
+    }
+    Range3d::load(range).store_corners(out);
+    Written::Done
+}
