@@ -8,10 +8,15 @@
  *
  *   1  an input slice's length differs from its record
  *   2  the output slice's length differs from its record
+ *   4  a matrix is singular
  *   7  a coordinate is off the grid
  *
  * The refusals are given in that order. On a refusal nothing that was lent is written; slices lent for reading are never
- * written. A result that is a NaN may be any NaN.
+ * written. A result that is a NaN may be any NaN. A lone number goes through a last parameter `double *`, a yes or no
+ * through `uint32_t *`, 1 for yes and 0 for no; then no 2 is given.
+ *
+ * Records: a point has 3 numbers, a homogeneous point 4, a range 6 (least corner, greatest corner), a matrix 16, row by
+ * row, for row vectors.
  */
 #ifndef GF_H
 #define GF_H
@@ -28,6 +33,58 @@ extern "C" {
  * Refuses 1 (p_len is not 3), 2 (out_len is not 3), then 7 where a product is not finite or its rounded size exceeds
  * 65536. Zero results are positive. */
 uint32_t gf_grid(const double *p, size_t p_len, double *out, size_t out_len);
+
+/* Matrices: m, a and b have 16 numbers. All refuse 1, then 2 where a slice is lent for the result. */
+
+/* a times b, 16 numbers: b is applied after a. */
+uint32_t gf_product(const double *a, size_t a_len, const double *b, size_t b_len, double *out, size_t out_len);
+
+/* Rows become columns, 16 numbers. */
+uint32_t gf_transpose(const double *m, size_t m_len, double *out, size_t out_len);
+
+/* The inverse, 16 numbers. Refuses 4, after 1 and 2, unless the determinant's size is above 1e-12; a NaN one is refused. */
+uint32_t gf_inverse(const double *m, size_t m_len, double *out, size_t out_len);
+
+/* The point p through m, 3 numbers, divided by its w; a w of zero, of either sign, counts as 1. */
+uint32_t gf_transform(const double *m, size_t m_len, const double *p, size_t p_len, double *out, size_t out_len);
+
+/* The point p through m, 3 numbers, the last column of m left out. */
+uint32_t gf_transform_affine(const double *m, size_t m_len, const double *p, size_t p_len, double *out, size_t out_len);
+
+/* The direction p through the upper three by three of m, 3 numbers. */
+uint32_t gf_transform_dir(const double *m, size_t m_len, const double *p, size_t p_len, double *out, size_t out_len);
+
+/* The homogeneous point v, 4 numbers, through m: 4 numbers. */
+uint32_t gf_transform_homogeneous(const double *m, size_t m_len, const double *v, size_t v_len, double *out, size_t out_len);
+
+/* The determinant of the upper three by three. */
+uint32_t gf_determinant3(const double *m, size_t m_len, double *out);
+
+/* Whether that determinant is above zero. */
+uint32_t gf_is_right_handed(const double *m, size_t m_len, uint32_t *out);
+
+/* Ranges: range, a and b have 6 numbers. All refuse 1, then 2 where a slice is lent for the result. */
+
+/* Whether the least is above the greatest along some axis; a NaN alone does not make a range empty. */
+uint32_t gf_range_is_empty(const double *range, size_t range_len, uint32_t *out);
+
+/* The range that holds both, 6 numbers; an empty one yields the other, and of two empty ones the second is the result. */
+uint32_t gf_range_union(const double *a, size_t a_len, const double *b, size_t b_len, double *out, size_t out_len);
+
+/* What both hold, 6 numbers. */
+uint32_t gf_range_intersection(const double *a, size_t a_len, const double *b, size_t b_len, double *out, size_t out_len);
+
+/* The midpoint, 3 numbers. */
+uint32_t gf_range_midpoint(const double *range, size_t range_len, double *out, size_t out_len);
+
+/* The square of the distance from p to the range, zero inside it. */
+uint32_t gf_range_distance_squared(const double *range, size_t range_len, const double *p, size_t p_len, double *out);
+
+/* The range, aligned to the axes, that holds the range moved by m: 6 numbers. An empty range stays as it is. */
+uint32_t gf_range_transformed(const double *range, size_t range_len, const double *m, size_t m_len, double *out, size_t out_len);
+
+/* The eight corners, 24 numbers: x changes fastest, the least first. */
+uint32_t gf_range_corners(const double *range, size_t range_len, double *out, size_t out_len);
 
 /* The numbers that the other operations are made of. They refuse nothing. */
 

@@ -1,4 +1,7 @@
 // The C functions of include/gf.h: each is the operation of the same name, with the number of its answer.
 pub mod matrix_calls;
 pub mod number_calls;
+pub mod plane_calls;
+pub mod projection_calls;
 pub mod range_calls;
+pub mod ray_calls;

@@ -1,0 +1,6 @@
+-- The laws that the proofs of this crate, and of the crates above it, cite.
+pub mod Calls
+pub mod Literals
+pub mod Recovery
+pub mod Same
+pub mod Worked

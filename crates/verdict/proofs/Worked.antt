@@ -1,0 +1,111 @@
+-- Worked numbers of paper 01 ("Odd inputs", "Slips a rater would miss") on planes, rays and projections, computed from the definitions. Assumes nothing.
+use mathlib.Core.Path.{_≡_, refl, ap}
+use mathlib.Core.Bool.{true, false}
+use mathlib.Core.List.{List, [], _∷_}
+use Prim.Native.Nat.{_^_}
+use lib.Count.{trailingZeros}
+use lib.IntN.{pos, negsuc}
+use lib.Ieee.{Float, nan, fin, add, sub, mul, div, neg, lt, le, eq, isNan, round, sum, units, odd, size, span, climb}
+use Rattle.number.specs.Arithmetic.{absOf, maxOf}
+use Rattle.number.specs.Answer.{refused}
+use Rattle.number.specs.Format.{narrowOf}
+use Rattle.number.specs.Root.{sqrtOf}
+use Rattle.matrix.specs.Constants.{rounded, positiveZero, half, one, minLength}
+use Rattle.matrix.specs.Vec.{lengthOf, normalized}
+use Rattle.matrix.specs.declared.vec.Vec3d.{Vec3d}
+use Rattle.verdict.specs.declared.plane.Plane.{Plane}
+use Rattle.verdict.specs.declared.ray.Ray.{Ray}
+use Rattle.verdict.specs.declared.ray.PlaneHit.the-variants.{At, Miss}
+use Rattle.verdict.specs.declared.ray.TriangleHit.the-variants.{Hit}
+use Rattle.verdict.specs.declared.projection.Projection.the-variants.{Perspective}
+use Rattle.verdict.specs.declared.projection.Loaded.the-variants.{Params, UnknownKind}
+use Rattle.verdict.specs.Plane.{plane, offset, fromEquation, distanceTo, onPositiveSide}
+use Rattle.verdict.specs.Ray.{ray, planeHit, faced, settled, betaOf, alphaOf, gammaOf, weighed, triangleHit, triangleHitNumbers}
+use Rattle.verdict.specs.Projection.{paramsOf, loaded}
+
+abbrev o : Float
+o = positiveZero
+
+abbrev vec : Float → Float → Float → Vec3d
+vec x y z = record { x = x; y = y; z = z }
+
+-- ---- planes
+
+-- "`from_equation` with a normal whose computed length is zero takes −w as distance."
+no-normal : (w : Float) → fromEquation (record { x = o; y = o; z = o; w = w }) .distance ≡ neg w
+unfolding offset lengthOf sqrtOf add mul eq round sum units odd size span climb trailingZeros
+no-normal w = refl
+
+-- "A NaN distance is not on the positive side."
+no-side : (p : Plane) (x : Vec3d) → distanceTo p x ≡ nan → onPositiveSide p x ≡ false
+unfolding le round units odd size span climb trailingZeros
+no-side p x h = ap (le positiveZero) h
+
+-- ---- a plane, met from above
+
+abbrev ground : Plane
+ground = plane (vec o o one) o
+
+-- straight down from x, y and one above the ground
+abbrev down : Float → Float → Float → Ray
+down x y speed = ray (vec x y one) (vec o o (neg speed))
+
+-- "9e-11 misses, 1e-10 goes on", to a distance of 1e10
+too-flat : planeHit (down o o (rounded 9 (10 ^ 11))) ground ≡ Miss
+unfolding planeHit absOf add sub mul div neg lt le round sum units odd size span climb trailingZeros
+too-flat = refl
+
+steep-enough : planeHit (down o o minLength) ground ≡ At (fin false 9765625 (pos 10)) true
+unfolding planeHit absOf add sub mul div neg lt le round sum units odd size span climb trailingZeros
+steep-enough = refl
+
+-- "Distance zero hits."
+from-the-ground : planeHit (ray (vec o o o) (vec o o (neg one))) ground ≡ At (neg o) true
+unfolding planeHit absOf add sub mul div neg lt le round sum units odd size span climb trailingZeros
+from-the-ground = refl
+
+-- ---- weights and triangles
+
+-- "a weight strictly between −1e-10 and 0 first becomes 0"
+nearly-zero : settled (neg (rounded 9 (10 ^ 11))) ≡ o
+unfolding settled neg lt round units odd size span climb trailingZeros
+nearly-zero = refl
+
+not-nearly : settled (neg minLength) ≡ neg minLength
+unfolding settled neg lt round units odd size span climb trailingZeros
+not-nearly = refl
+
+abbrev corner : Vec3d
+corner = vec o o o
+
+-- 0.1 and 0.2
+abbrev tenth : Float
+tenth = fin false 3602879701896397 (negsuc 54)
+
+abbrev fifth : Float
+fifth = fin false 3602879701896397 (negsuc 53)
+
+-- "Keeping gamma unrounded changes a hit's weights": it is 11744051 / 2 ^ 24, and not 0.7
+rounded-gamma : triangleHit (down tenth fifth one) corner (vec one o o) (vec o one o) ≡ Hit (fin false 1 (pos 0)) (fin false 11744051 (negsuc 23)) tenth fifth true
+unfolding triangleHit planeHit faced weighed betaOf alphaOf gammaOf settled narrowOf normalized lengthOf sqrtOf absOf maxOf isNan add sub mul div neg lt le round sum units odd size span climb trailingZeros
+rounded-gamma = refl
+
+-- past an edge by 1e-9, and a triangle of no area
+outside : triangleHitNumbers (triangleHit (down (neg (rounded 1 (10 ^ 9))) half one) corner (vec one o o) (vec o one o)) ≡ refused 5
+unfolding triangleHit planeHit faced weighed betaOf alphaOf gammaOf settled narrowOf normalized lengthOf sqrtOf absOf maxOf isNan add sub mul div neg lt le round sum units odd size span climb trailingZeros
+outside = refl
+
+no-area : triangleHitNumbers (triangleHit (down half o one) corner (vec one o o) (vec (rounded 2 1) o o)) ≡ refused 5
+unfolding triangleHit planeHit faced weighed betaOf alphaOf gammaOf settled narrowOf normalized lengthOf sqrtOf absOf maxOf isNan add sub mul div neg lt le round sum units odd size span climb trailingZeros
+no-area = refl
+
+-- ---- kinds of projection
+
+-- "a zero of either sign counts as 0"
+negative-zero : (s : List Float) → loaded (neg o ∷ s) ≡ Params (paramsOf Perspective (neg o ∷ s))
+unfolding loaded eq neg round units odd size span climb trailingZeros
+negative-zero s = refl
+
+not-a-kind : (s : List Float) → loaded (nan ∷ s) ≡ UnknownKind
+unfolding loaded eq
+not-a-kind s = refl

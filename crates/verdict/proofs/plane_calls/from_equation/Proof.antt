@@ -1,0 +1,35 @@
+-- `plane_calls::from_equation` meets its contract: the lengths by its tests, the result by what it calls. Assumes nothing.
+use mathlib.Core.Path.{refl, ap, _∙_}
+use borrow.Author.Needs.{needs}
+use borrow.Author.Tests.{eq-eqb, ne-eqb}
+use Rattle.number.specs.Answer.{write}
+use Rattle.verdict.specs.declared.plane.Plane.{Plane}
+use Rattle.verdict.specs.Plane.{numbers, fromEquation}
+use Rattle.verdict.specs.Calls.{fromEquationCall}
+use Rattle.verdict.proofs.Calls.{no-input, no-room, written}
+use Rattle.verdict.proofs.plane_calls.from_equation.Statement.{statement}
+use Rattle.verdict.proofs.plane_calls.from_equation.Tie as tie
+
+returns : tie.Need-returns
+unfolding fromEquationCall
+returns c = no-input _ _ _ _ (ne-eqb _ _ (c .if1 .taken))
+
+returns-2 : tie.Need-returns-2
+unfolding fromEquationCall
+returns-2 c = no-room _ _ _ _ (eq-eqb _ _ (c .before .if1 .left)) (c .if2 .taken)
+
+same-length : tie.Need-same-length
+same-length c = search needs
+
+returns-3 : tie.Need-returns-3
+unfolding fromEquationCall
+returns-3 c =
+    let copied = c .before .before in
+    let made = copied .before .before in
+    let loaded = made .before in
+    let tested = loaded .before in
+    written _ 4 _ _ _ _ (eq-eqb _ _ (tested .before .if1 .left)) (tested .if2 .left) refl (copied .store .ensures)
+    (ap (λ (p : Plane). write (numbers p)) (made .from-equation .ensures ∙ ap fromEquation (loaded .load .ensures)))
+
+pub from-equation-spec : {M : Type 1} → statement M
+from-equation-spec = tie.close (tie.spec returns returns-2 (λ c κs. tt) (λ c κs. tt) (λ c κs. tt) same-length returns-3)

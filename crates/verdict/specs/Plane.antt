@@ -1,0 +1,94 @@
+-- Planes that divide space in two, as Gf's documentation has them. Definitions only.
+use mathlib.Core.Bool.{Bool, not, _&&_, cond}
+use mathlib.Core.List.{List, [], _∷_, _++_}
+use lib.Ieee.{Float, le, eq, neg}
+use Rattle.number.specs.Answer.{Outcome, refused, result}
+use Rattle.number.specs.Arithmetic.{_⊖_, _⊘_}
+use Rattle.number.specs.Slice.{at}
+use Rattle.matrix.specs.Constants.{positiveZero}
+use Rattle.matrix.specs.Vec.{coordinates, axis, axis4, vec3, vec3Of, difference, dot, cross, lengthOf, normalized}
+use Rattle.matrix.specs.Matrix.{transpose}
+use Rattle.matrix.specs.Transform.{homogeneous}
+use Rattle.matrix.specs.Inverse.{inverse}
+use Rattle.matrix.specs.Range.{isEmpty}
+use Rattle.matrix.specs.declared.vec.Vec3d.{Vec3d}
+use Rattle.matrix.specs.declared.vec.Vec4d.{Vec4d}
+use Rattle.matrix.specs.declared.matrix.Mat4d.{Mat4d}
+use Rattle.matrix.specs.declared.range.Range3d.{Range3d}
+use Rattle.matrix.specs.declared.inverse.Inverted.{Inverted}
+use Rattle.matrix.specs.declared.inverse.Inverted.the-variants.{Matrix, Singular as NoInverse}
+use Rattle.verdict.specs.declared.plane.Plane.{Plane}
+use Rattle.verdict.specs.declared.plane.Transformed.{Transformed}
+use Rattle.verdict.specs.declared.plane.Transformed.the-variants.{To, Singular}
+
+-- ---- its numbers, "plane 4 (normal, distance)"
+
+abbrev pub numbers : Plane → List Float
+numbers p = coordinates (p .normal) ++ p .distance ∷ []
+
+abbrev pub plane : Vec3d → Float → Plane
+plane n d = record { normal = n; distance = d }
+
+abbrev pub planeOf : List Float → Plane
+planeOf s = plane (vec3Of s) (at s 3)
+
+-- ---- planes from a normal, from points, from an equation
+
+-- the normal is made unit length
+abbrev pub facing : Vec3d → Float → Plane
+facing n d = plane (normalized n) d
+
+-- through three points, facing the side from which they run counter-clockwise
+abbrev pub fromPoints : Vec3d → Vec3d → Vec3d → Plane
+fromPoints p0 p1 p2 = let n = normalized (cross (difference p1 p0) (difference p2 p0)) in plane n (dot n p0)
+
+-- "`from_equation` with a normal whose computed length is zero takes −w as distance."
+unfoldable pub offset : Float → Float → Float
+offset w length = cond (eq length positiveZero) (neg w) (neg w ⊘ length)
+
+-- the points where a x + b y + c z + w is zero, for the equation (a, b, c, w)
+abbrev pub fromEquation : Vec4d → Plane
+fromEquation e = let n = vec3 (axis4 e) in plane (normalized n) (offset (e .w) (lengthOf n))
+
+abbrev pub equation : Plane → Vec4d
+equation p = record { x = p .normal .x; y = p .normal .y; z = p .normal .z; w = neg (p .distance) }
+
+-- ---- its two sides
+
+-- how far a point is from the plane, positive on the side that the normal points into
+abbrev pub distanceTo : Plane → Vec3d → Float
+distanceTo p x = dot x (p .normal) ⊖ p .distance
+
+-- on the plane or in its positive half-space: "A NaN distance is not on the positive side."
+abbrev pub onPositiveSide : Plane → Vec3d → Bool
+onPositiveSide p x = le positiveZero (distanceTo p x)
+
+-- the end of a span that a number of a normal points toward
+unfoldable pub endToward : Float → Float → Float → Float
+endToward n low high = cond (le positiveZero n) high low
+
+-- the corner of a range that lies furthest along a normal
+abbrev pub furthest : Vec3d → Range3d → Vec3d
+furthest n r = vec3 (λ i. endToward (axis n i) (axis (r .min) i) (axis (r .max) i))
+
+-- any of the range is on the plane or in its positive half-space; an empty one has nothing there
+unfoldable pub reachesPositiveSide : Plane → Range3d → Bool
+reachesPositiveSide p r = not (isEmpty r) && le (p .distance) (dot (p .normal) (furthest (p .normal) r))
+
+-- ---- a plane through a matrix
+
+-- its equation is carried by the transpose of the inverse
+abbrev pub underInverseTranspose : Mat4d → Plane → Plane
+underInverseTranspose m p = fromEquation (homogeneous m (equation p))
+
+abbrev pub carried : Inverted → Plane → Transformed
+carried (Matrix m) p = To (underInverseTranspose (transpose m) p)
+carried NoInverse p = Singular
+
+unfoldable pub transformed : Mat4d → Plane → Transformed
+transformed m p = carried (inverse m) p
+
+-- what its answer comes to in paper 01's numbers: "4 is singular"
+abbrev pub transformedNumbers : Transformed → Outcome (List Float)
+transformedNumbers (To p) = result (numbers p)
+transformedNumbers Singular = refused 4

@@ -1,0 +1,135 @@
+-- Rays, and where they meet planes and triangles, as Gf's documentation has them. Definitions only.
+use Prim.Native.Nat.{ℕ, _+_}
+use mathlib.Core.Bool.{Bool, true, false, not, cond, _&&_}
+use mathlib.Core.List.{List, [], _∷_, _++_}
+use lib.Ieee.{Float, lt, le, neg}
+use Rattle.number.specs.Answer.{Outcome, refused, result, numberOf, unless}
+use Rattle.number.specs.Arithmetic.{_⊕_, _⊖_, _⊗_, _⊘_, absOf}
+use Rattle.number.specs.Format.{narrowOf, widenOf}
+use Rattle.number.specs.Slice.{at}
+use Rattle.number.specs.declared.answer.Refusal.the-variants.{Miss as MissRefusal}
+use Rattle.matrix.specs.Constants.{positiveZero, one, minLength}
+use Rattle.matrix.specs.Vec.{coordinates, vec3, vec3Of, sum, difference, multiple, dot}
+use Rattle.matrix.specs.Transform.{direction, transformed as transformedPoint}
+use Rattle.matrix.specs.declared.vec.Vec3d.{Vec3d}
+use Rattle.matrix.specs.declared.matrix.Mat4d.{Mat4d}
+use Rattle.verdict.specs.declared.plane.Plane.{Plane}
+use Rattle.verdict.specs.declared.ray.Ray.{Ray}
+use Rattle.verdict.specs.declared.ray.PlaneHit.{PlaneHit}
+use Rattle.verdict.specs.declared.ray.PlaneHit.the-variants.{At, Miss}
+use Rattle.verdict.specs.declared.ray.TriangleHit.{TriangleHit}
+use Rattle.verdict.specs.declared.ray.TriangleHit.the-variants.{Hit, Refused}
+use Rattle.verdict.specs.declared.ray.Axis.{Axis}
+use Rattle.verdict.specs.declared.ray.Axis.the-variants.{X, Y, Z}
+use Rattle.verdict.specs.declared.ray.Flat.{Flat}
+use Rattle.verdict.specs.Plane.{fromPoints}
+
+-- ---- its numbers, "ray 6 (start, direction)"
+
+abbrev pub numbers : Ray → List Float
+numbers r = coordinates (r .start) ++ coordinates (r .direction)
+
+abbrev pub ray : Vec3d → Vec3d → Ray
+ray s d = record { start = s; direction = d }
+
+abbrev pub rayOf : List Float → Ray
+rayOf s = ray (vec3Of s) (vec3 (λ i. at s (3 + i)))
+
+-- ---- along the ray, and through a matrix
+
+-- a distance is in lengths of the direction
+abbrev pub pointAt : Ray → Float → Vec3d
+pointAt r d = sum (r .start) (multiple (r .direction) d)
+
+-- the start as a point, the direction as a direction
+abbrev pub transformed : Mat4d → Ray → Ray
+transformed m r = ray (transformedPoint m (r .start)) (direction m (r .direction))
+
+-- ---- where it meets a plane
+
+-- how much the ray runs along the normal
+abbrev pub facing : Ray → Plane → Float
+facing r p = dot (r .direction) (p .normal)
+
+-- how far along the ray the plane is, by the point of the plane on its normal
+abbrev pub along : Ray → Plane → Float
+along r p = dot (difference (multiple (p .normal) (p .distance)) (r .start)) (p .normal) ⊘ facing r p
+
+-- "`intersect_plane` misses if |facing| < 1e-10: 9e-11 misses, 1e-10 goes on. Distance zero hits." The front is the side that the normal points into.
+unfoldable pub planeHit : Ray → Plane → PlaneHit
+planeHit r p =
+    cond (lt (absOf (facing r p)) minLength) Miss
+    (cond (le positiveZero (along r p)) (At (along r p) (lt (facing r p) positiveZero)) Miss)
+
+-- ---- where it meets a triangle
+
+-- The axis that a normal points along most: x only if it is above both others, and z where y is not above it.
+unfoldable pub faced : Vec3d → Axis
+faced n =
+    let x = absOf (n .x) in
+    let y = absOf (n .y) in
+    let z = absOf (n .z) in
+    cond (lt y x && lt z x) X (cond (lt z y) Y Z)
+
+-- projected along an axis: the numbers along the two axes that follow it, counted round
+abbrev pub projected : Axis → Vec3d → Flat
+projected X p = record { u = p .y; v = p .z }
+projected Y p = record { u = p .z; v = p .x }
+projected Z p = record { u = p .x; v = p .y }
+
+-- "a weight strictly between −1e-10 and 0 first becomes 0"
+unfoldable pub settled : Float → Float
+settled w = cond (lt w positiveZero && lt (neg minLength) w) positiveZero w
+
+-- The weights of the third point, the second and the first. d0 is the place met, d1 and d2 are the second and the third point, all from the first and projected.
+unfoldable pub betaOf : Flat → Flat → Flat → Float
+betaOf d0 d1 d2 = settled ((d0 .v ⊗ d1 .u ⊖ d0 .u ⊗ d1 .v) ⊘ (d2 .v ⊗ d1 .u ⊖ d2 .u ⊗ d1 .v))
+
+unfoldable pub alphaOf : Flat → Flat → Flat → Float → Float
+alphaOf d0 d1 d2 beta =
+    settled (cond (lt minLength (absOf (d1 .v))) ((d0 .v ⊖ beta ⊗ d2 .v) ⊘ d1 .v) ((d0 .u ⊖ beta ⊗ d2 .u) ⊘ d1 .u))
+
+-- "Gamma is rounded through f32 before these tests."
+unfoldable pub gammaOf : Float → Float → Float
+gammaOf alpha beta = settled (widenOf (narrowOf (one ⊖ (alpha ⊕ beta))))
+
+-- "beta must lie in 0 to 1"
+abbrev pub inSpan : Float → Bool
+inSpan beta = le positiveZero beta && le beta one
+
+-- "alpha and gamma must not be negative, so NaN passes there"
+abbrev pub notNegative : Float → Bool
+notNegative w = not (lt w positiveZero)
+
+-- the answer to a ray that meets the triangle's plane
+unfoldable pub weighed : Float → Bool → Flat → Flat → Flat → TriangleHit
+weighed distance front d0 d1 d2 =
+    let beta = betaOf d0 d1 d2 in
+    let alpha = alphaOf d0 d1 d2 beta in
+    let gamma = gammaOf alpha beta in
+    unless (inSpan beta && notNegative alpha && notNegative gamma) (Refused MissRefusal) (Hit distance gamma alpha beta front)
+
+abbrev pub within : PlaneHit → Ray → Axis → Vec3d → Vec3d → Vec3d → TriangleHit
+within (At d front) r a p0 p1 p2 =
+    weighed d front (projected a (difference (pointAt r d) p0)) (projected a (difference p1 p0)) (projected a (difference p2 p0))
+within Miss r a p0 p1 p2 = Refused MissRefusal
+
+unfoldable pub triangleHit : Ray → Vec3d → Vec3d → Vec3d → TriangleHit
+triangleHit r p0 p1 p2 = let p = fromPoints p0 p1 p2 in within (planeHit r p) r (faced (p .normal)) p0 p1 p2
+
+-- ---- what each answer comes to in paper 01's numbers
+
+-- "front 1 or 0"
+abbrev pub frontFlag : Bool → Float
+frontFlag true = one
+frontFlag false = positiveZero
+
+-- "A plane hit writes distance and front flag." "5 a miss"
+abbrev pub planeHitNumbers : PlaneHit → Outcome (List Float)
+planeHitNumbers (At d front) = result (d ∷ frontFlag front ∷ [])
+planeHitNumbers Miss = refused 5
+
+-- "hit 5 (distance, gamma, alpha, beta, front 1 or 0)"
+abbrev pub triangleHitNumbers : TriangleHit → Outcome (List Float)
+triangleHitNumbers (Hit d g a b front) = result (d ∷ g ∷ a ∷ b ∷ frontFlag front ∷ [])
+triangleHitNumbers (Refused r) = refused (numberOf r)

@@ -1,0 +1,156 @@
+// A plane that divides space in two.
+ghost use mathlib.Core.Path.{_≡_};
+ghost use Rattle.verdict.specs.Plane.{numbers, planeOf, facing, fromPoints, offset, fromEquation, equation, distanceTo, onPositiveSide, endToward, reachesPositiveSide, underInverseTranspose, transformed};
+ghost use Rattle.number.specs.Slice.{stored};
+use matrix::inverse::Inverted;
+use matrix::matrix::Mat4d;
+use matrix::range::Range3d;
+use matrix::vec::Vec3d;
+use matrix::vec::Vec4d;
+use number::slice;
+use number::slice::at;
+
+// The normal that it faces along, and how far along it the plane stands from the origin.
+pub struct Plane {
+    pub normal: Vec3d,
+    pub distance: f64,
+}
+
+// A plane under a matrix, or that the matrix has no inverse.
+pub enum Transformed {
+    To(Plane),
+    Singular,
+}
+
+// The distance of an equation whose last number is w, for a normal of a length.
+fn offset(w: f64, length: f64) -> f64
+    ensures { λ r. ⌜ r ≡ offset w length ⌝ }
+{
+    if length == 0.0 {
+        return -w;
+    }
+    -w / length
+}
+
+// The end of a span that a number of a normal points toward.
+fn end_toward(n: f64, min: f64, max: f64) -> f64
+    ensures { λ r. ⌜ r ≡ endToward n min max ⌝ }
+{
+    if n >= 0.0 {
+        return max;
+    }
+    min
+}
+
+impl Plane {
+    // The plane that faces along a normal, which is made unit length.
+    pub fn new(normal: Vec3d, distance: f64) -> Plane
+        ensures { λ r. ⌜ r ≡ facing normal distance ⌝ }
+    {
+        Plane {
+            normal: normal.normalize(),
+            distance,
+        }
+    }
+
+    // The plane through three points, facing the side from which they run counter-clockwise.
+    pub fn from_points(p0: Vec3d, p1: Vec3d, p2: Vec3d) -> Plane
+        ensures { λ r. ⌜ r ≡ fromPoints p0 p1 p2 ⌝ }
+    {
+        let normal = p1.sub(p0).cross(p2.sub(p0)).normalize();
+        Plane {
+            normal,
+            distance: normal.dot(p0),
+        }
+    }
+
+    // The plane of the points where x, y and z times the first three numbers, plus the last, is zero.
+    pub fn from_equation(equation: Vec4d) -> Plane
+        ensures { λ r. ⌜ r ≡ fromEquation equation ⌝ }
+    {
+        let normal = Vec3d {
+            x: equation.x,
+            y: equation.y,
+            z: equation.z,
+        };
+        Plane {
+            normal: normal.normalize(),
+            distance: offset(equation.w, normal.length()),
+        }
+    }
+
+    pub fn equation(self) -> Vec4d
+        ensures { λ r. ⌜ r ≡ equation self ⌝ }
+    {
+        Vec4d {
+            x: self.normal.x,
+            y: self.normal.y,
+            z: self.normal.z,
+            w: -self.distance,
+        }
+    }
+
+    // How far a point is from the plane, positive on the side that the normal points into.
+    pub fn distance(self, point: Vec3d) -> f64
+        ensures { λ r. ⌜ r ≡ distanceTo self point ⌝ }
+    {
+        point.dot(self.normal) - self.distance
+    }
+
+    pub fn on_positive_side(self, point: Vec3d) -> bool
+        ensures { λ r. ⌜ r ≡ onPositiveSide self point ⌝ }
+    {
+        self.distance(point) >= 0.0
+    }
+
+    // Whether any of a range is on the plane or in its positive half-space.
+    pub fn reaches_positive_side(self, range: Range3d) -> bool
+        ensures { λ r. ⌜ r ≡ reachesPositiveSide self range ⌝ }
+    {
+        if range.is_empty() {
+            return false;
+        }
+        let furthest = Vec3d {
+            x: end_toward(self.normal.x, range.min.x, range.max.x),
+            y: end_toward(self.normal.y, range.min.y, range.max.y),
+            z: end_toward(self.normal.z, range.min.z, range.max.z),
+        };
+        self.normal.dot(furthest) >= self.distance
+    }
+
+    // The plane under a transform, of which the transpose of the inverse is given.
+    pub fn under_inverse_transpose(self, inverse_transpose: Mat4d) -> Plane
+        ensures { λ r. ⌜ r ≡ underInverseTranspose «inverse_transpose» self ⌝ }
+    {
+        Plane::from_equation(inverse_transpose.transform_homogeneous(self.equation()))
+    }
+
+    pub fn transformed(self, matrix: Mat4d) -> Transformed
+        ensures { λ r. ⌜ r ≡ transformed matrix self ⌝ }
+    {
+        let Inverted::Matrix(inverse) = matrix.inverse() else {
+            return Transformed::Singular;
+        };
+        Transformed::To(self.under_inverse_transpose(inverse.transpose()))
+    }
+
+    // The first four numbers of a slice.
+    pub fn load(s: &[f64]) -> Plane
+        ensures { λ r. ⌜ r ≡ planeOf (now (s .entry)) ⌝ }
+    {
+        Plane {
+            normal: Vec3d::load(s),
+            distance: at(s, 3),
+        }
+    }
+
+    // Its numbers, into a slice of four.
+    pub fn store(self, out: &mut [f64])
+        ensures { λ _. ⌜ now (out .exit) ≡ stored (numbers self) (now (out .entry)) ⌝ }
+    {
+        slice::store(
+            &[self.normal.x, self.normal.y, self.normal.z, self.distance],
+            out,
+        );
+    }
+}

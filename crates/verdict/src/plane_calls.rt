@@ -1,0 +1,110 @@
+// The operations on planes, over lent slices.
+ghost use mathlib.Core.Path.{_≡_};
+ghost use Rattle.number.specs.Answer.{reply, scalarOf, verdictOf};
+ghost use Rattle.verdict.specs.Calls.{newPlaneCall, fromPointsCall, fromEquationCall, distanceCall, sideCall, transformedPlaneCall};
+use crate::plane::Plane;
+use crate::plane::Transformed;
+use matrix::matrix::Mat4d;
+use matrix::vec::Vec3d;
+use matrix::vec::Vec4d;
+use number::answer::Refusal;
+use number::answer::Scalar;
+use number::answer::Verdict;
+use number::answer::Written;
+
+// The plane that faces along a normal, at a distance from the origin.
+pub fn new(normal: &[f64], distance: f64, out: &mut [f64]) -> Written
+    ensures { λ r. ⌜ reply r (now (out .exit)) ≡ newPlaneCall (now (normal .entry)) distance (now (out .entry)) ⌝ }
+{
+    if normal.len() != 3 {
+        return Written::Refused(Refusal::InputLength);
+    }
+    if out.len() != 4 {
+        return Written::Refused(Refusal::OutputLength);
+    }
+    Plane::new(Vec3d::load(normal), distance).store(out);
+    Written::Done
+}
+
+// The plane through three points.
+pub fn from_points(p0: &[f64], p1: &[f64], p2: &[f64], out: &mut [f64]) -> Written
+    ensures { λ r. ⌜ reply r (now (out .exit)) ≡ fromPointsCall (now (p0 .entry)) (now (p1 .entry)) (now (p2 .entry)) (now (out .entry)) ⌝ }
+{
+    if p0.len() != 3 {
+        return Written::Refused(Refusal::InputLength);
+    }
+    if p1.len() != 3 {
+        return Written::Refused(Refusal::InputLength);
+    }
+    if p2.len() != 3 {
+        return Written::Refused(Refusal::InputLength);
+    }
+    if out.len() != 4 {
+        return Written::Refused(Refusal::OutputLength);
+    }
+    Plane::from_points(Vec3d::load(p0), Vec3d::load(p1), Vec3d::load(p2)).store(out);
+    Written::Done
+}
+
+// The plane of an equation.
+pub fn from_equation(equation: &[f64], out: &mut [f64]) -> Written
+    ensures { λ r. ⌜ reply r (now (out .exit)) ≡ fromEquationCall (now (equation .entry)) (now (out .entry)) ⌝ }
+{
+    if equation.len() != 4 {
+        return Written::Refused(Refusal::InputLength);
+    }
+    if out.len() != 4 {
+        return Written::Refused(Refusal::OutputLength);
+    }
+    Plane::from_equation(Vec4d::load(equation)).store(out);
+    Written::Done
+}
+
+// How far a point is from a plane.
+pub fn distance(plane: &[f64], p: &[f64]) -> Scalar
+    ensures { λ r. ⌜ scalarOf r ≡ distanceCall (now (plane .entry)) (now (p .entry)) ⌝ }
+{
+    if plane.len() != 4 {
+        return Scalar::Refused(Refusal::InputLength);
+    }
+    if p.len() != 3 {
+        return Scalar::Refused(Refusal::InputLength);
+    }
+    Scalar::Value(Plane::load(plane).distance(Vec3d::load(p)))
+}
+
+// Whether a point is on a plane or in its positive half-space.
+pub fn on_positive_side(plane: &[f64], p: &[f64]) -> Verdict
+    ensures { λ r. ⌜ verdictOf r ≡ sideCall (now (plane .entry)) (now (p .entry)) ⌝ }
+{
+    if plane.len() != 4 {
+        return Verdict::Refused(Refusal::InputLength);
+    }
+    if p.len() != 3 {
+        return Verdict::Refused(Refusal::InputLength);
+    }
+    if Plane::load(plane).on_positive_side(Vec3d::load(p)) {
+        return Verdict::Yes;
+    }
+    Verdict::No
+}
+
+// A plane under a matrix. It is refused as singular where the matrix has no inverse.
+pub fn transformed(plane: &[f64], m: &[f64], out: &mut [f64]) -> Written
+    ensures { λ r. ⌜ reply r (now (out .exit)) ≡ transformedPlaneCall (now (plane .entry)) (now (m .entry)) (now (out .entry)) ⌝ }
+{
+    if plane.len() != 4 {
+        return Written::Refused(Refusal::InputLength);
+    }
+    if m.len() != 16 {
+        return Written::Refused(Refusal::InputLength);
+    }
+    if out.len() != 4 {
+        return Written::Refused(Refusal::OutputLength);
+    }
+    let Transformed::To(moved) = Plane::load(plane).transformed(Mat4d::load(m)) else {
+        return Written::Refused(Refusal::Singular);
+    };
+    moved.store(out);
+    Written::Done
+}

@@ -1,0 +1,108 @@
+// The operations on rays, over lent slices.
+ghost use mathlib.Core.Path.{_≡_};
+ghost use Rattle.number.specs.Answer.{reply};
+ghost use Rattle.verdict.specs.Calls.{pointCall, transformedRayCall, planeHitCall, triangleHitCall};
+use crate::plane::Plane;
+use crate::ray::PlaneHit;
+use crate::ray::Ray;
+use crate::ray::TriangleHit;
+use crate::ray::front_flag;
+use matrix::matrix::Mat4d;
+use matrix::vec::Vec3d;
+use number::answer::Refusal;
+use number::answer::Written;
+use number::slice;
+
+// The point at a distance along a ray.
+pub fn point(ray: &[f64], distance: f64, out: &mut [f64]) -> Written
+    ensures { λ r. ⌜ reply r (now (out .exit)) ≡ pointCall (now (ray .entry)) distance (now (out .entry)) ⌝ }
+{
+    if ray.len() != 6 {
+        return Written::Refused(Refusal::InputLength);
+    }
+    if out.len() != 3 {
+        return Written::Refused(Refusal::OutputLength);
+    }
+    Ray::load(ray).point(distance).store(out);
+    Written::Done
+}
+
+// A ray under a matrix.
+pub fn transformed(ray: &[f64], m: &[f64], out: &mut [f64]) -> Written
+    ensures { λ r. ⌜ reply r (now (out .exit)) ≡ transformedRayCall (now (ray .entry)) (now (m .entry)) (now (out .entry)) ⌝ }
+{
+    if ray.len() != 6 {
+        return Written::Refused(Refusal::InputLength);
+    }
+    if m.len() != 16 {
+        return Written::Refused(Refusal::InputLength);
+    }
+    if out.len() != 6 {
+        return Written::Refused(Refusal::OutputLength);
+    }
+    Ray::load(ray).transformed(Mat4d::load(m)).store(out);
+    Written::Done
+}
+
+// Where a ray meets a plane: the distance, and 1 for its front or 0 for its back. It is refused where it misses.
+pub fn intersect_plane(ray: &[f64], plane: &[f64], out: &mut [f64]) -> Written
+    ensures { λ r. ⌜ reply r (now (out .exit)) ≡ planeHitCall (now (ray .entry)) (now (plane .entry)) (now (out .entry)) ⌝ }
+{
+    if ray.len() != 6 {
+        return Written::Refused(Refusal::InputLength);
+    }
+    if plane.len() != 4 {
+        return Written::Refused(Refusal::InputLength);
+    }
+    if out.len() != 2 {
+        return Written::Refused(Refusal::OutputLength);
+    }
+    let PlaneHit::At { distance, front } = Ray::load(ray).intersect_plane(Plane::load(plane)) else {
+        return Written::Refused(Refusal::Miss);
+    };
+    let flag = front_flag(front);
+    slice::store(&[distance, flag], out);
+    Written::Done
+}
+
+// Where a ray meets a triangle: the distance, the weights of its three points, and 1 for its front or 0 for its back. It
+// is refused where it misses.
+pub fn intersect_triangle(
+    ray: &[f64],
+    p0: &[f64],
+    p1: &[f64],
+    p2: &[f64],
+    out: &mut [f64],
+) -> Written
+    ensures { λ r. ⌜ reply r (now (out .exit)) ≡ triangleHitCall (now (ray .entry)) (now (p0 .entry)) (now (p1 .entry)) (now (p2 .entry)) (now (out .entry)) ⌝ }
+{
+    if ray.len() != 6 {
+        return Written::Refused(Refusal::InputLength);
+    }
+    if p0.len() != 3 {
+        return Written::Refused(Refusal::InputLength);
+    }
+    if p1.len() != 3 {
+        return Written::Refused(Refusal::InputLength);
+    }
+    if p2.len() != 3 {
+        return Written::Refused(Refusal::InputLength);
+    }
+    if out.len() != 5 {
+        return Written::Refused(Refusal::OutputLength);
+    }
+    match Ray::load(ray).intersect_triangle(Vec3d::load(p0), Vec3d::load(p1), Vec3d::load(p2)) {
+        TriangleHit::Hit {
+            distance,
+            gamma,
+            alpha,
+            beta,
+            front,
+        } => {
+            let flag = front_flag(front);
+            slice::store(&[distance, gamma, alpha, beta, flag], out);
+            Written::Done
+        }
+        TriangleHit::Refused(refusal) => Written::Refused(refusal),
+    }
+}
