@@ -8,7 +8,10 @@
  *
  *   1  an input slice's length differs from its record
  *   2  the output slice's length differs from its record
+ *   3  a kind is outside its named values
  *   4  a matrix is singular
+ *   5  a miss
+ *   6  a matrix is not a projection
  *   7  a coordinate is off the grid
  *
  * The refusals are given in that order. On a refusal nothing that was lent is written; slices lent for reading are never
@@ -16,7 +19,8 @@
  * through `uint32_t *`, 1 for yes and 0 for no; then no 2 is given.
  *
  * Records: a point has 3 numbers, a homogeneous point 4, a range 6 (least corner, greatest corner), a matrix 16, row by
- * row, for row vectors.
+ * row, for row vectors; a plane 4 (normal, distance), a ray 6 (start, direction), a projection 7 (kind 0 perspective or 1
+ * orthographic, left, right, bottom, top, near, far).
  */
 #ifndef GF_H
 #define GF_H
@@ -85,6 +89,52 @@ uint32_t gf_range_transformed(const double *range, size_t range_len, const doubl
 
 /* The eight corners, 24 numbers: x changes fastest, the least first. */
 uint32_t gf_range_corners(const double *range, size_t range_len, double *out, size_t out_len);
+
+/* Planes: plane has 4 numbers and is taken as it is given, its normal of any length. All refuse 1, then 2 where a slice is
+ * lent for the result. */
+
+/* The plane that faces along a normal of 3 numbers, which is made unit length, at a distance from the origin: 4 numbers. */
+uint32_t gf_plane_new(const double *normal, size_t normal_len, double distance, double *out, size_t out_len);
+
+/* The plane through three points, facing the side from which they run counter-clockwise: 4 numbers. */
+uint32_t gf_plane_from_points(const double *p0, size_t p0_len, const double *p1, size_t p1_len, const double *p2, size_t p2_len, double *out, size_t out_len);
+
+/* The plane where a x + b y + c z + w is zero, for an equation a, b, c, w: 4 numbers. A normal of length zero takes -w as
+ * distance. */
+uint32_t gf_plane_from_equation(const double *equation, size_t equation_len, double *out, size_t out_len);
+
+/* How far p is from the plane, positive on the side that the normal points into. */
+uint32_t gf_plane_distance(const double *plane, size_t plane_len, const double *p, size_t p_len, double *out);
+
+/* Whether p is on the plane or on that side; a NaN distance is not. */
+uint32_t gf_plane_on_positive_side(const double *plane, size_t plane_len, const double *p, size_t p_len, uint32_t *out);
+
+/* The plane under a matrix, 4 numbers. Refuses 4 last, where the matrix has no inverse. */
+uint32_t gf_plane_transformed(const double *plane, size_t plane_len, const double *m, size_t m_len, double *out, size_t out_len);
+
+/* Rays: ray has 6 numbers. All refuse 1, then 2. */
+
+/* The point at a distance, in lengths of the direction: 3 numbers. */
+uint32_t gf_ray_point(const double *ray, size_t ray_len, double distance, double *out, size_t out_len);
+
+/* The ray under a matrix, 6 numbers. */
+uint32_t gf_ray_transformed(const double *ray, size_t ray_len, const double *m, size_t m_len, double *out, size_t out_len);
+
+/* Where the ray meets the plane: distance, and 1 for the front or 0, 2 numbers. Refuses 5 last, for a miss. */
+uint32_t gf_ray_intersect_plane(const double *ray, size_t ray_len, const double *plane, size_t plane_len, double *out, size_t out_len);
+
+/* Where the ray meets the triangle: distance, the weights gamma, alpha and beta of the first, second and third point, and
+ * 1 for the front or 0, 5 numbers. Refuses 5 last, for a miss. */
+uint32_t gf_ray_intersect_triangle(const double *ray, size_t ray_len, const double *p0, size_t p0_len, const double *p1, size_t p1_len, const double *p2, size_t p2_len, double *out, size_t out_len);
+
+/* Projections. */
+
+/* The matrix of a projection, 16 numbers. Refuses 1, 2, then 3 for a kind that is neither 0, of either sign, nor 1. */
+uint32_t gf_projection_matrix(const double *params, size_t params_len, double *out, size_t out_len);
+
+/* The projection of a matrix, 7 numbers. Refuses 1, 2, then 6 where the matrix is none: its six numbers are finite, and the
+ * matrix that they build is m within 1e-6. */
+uint32_t gf_projection_from_matrix(const double *m, size_t m_len, double *out, size_t out_len);
 
 /* The numbers that the other operations are made of. They refuse nothing. */
 

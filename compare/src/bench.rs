@@ -1,8 +1,8 @@
 //! Both sides timed on the same inputs in one process.
 
-use crate::call::Lent;
+use crate::call::{Input, Ins, Lent, Side};
 use crate::op::Op;
-use crate::scalar::{Function, Words};
+use crate::scalar::{Function, Numbers};
 use std::hint::black_box;
 use std::time::Instant;
 
@@ -21,17 +21,17 @@ pub struct Timing<'a> {
 
 impl<'a> Timing<'a> {
     /// How many calls a pass makes.
-    pub const CALLS: usize = 4096;
+    pub const CALLS: usize = 2048;
 
     /// A function of numbers, through a pointer on both sides.
     pub fn of_numbers(
         name: &'static str,
         set: &'static str,
-        inputs: Vec<Words>,
+        inputs: Vec<Numbers>,
         ours: Function,
         rust: Function,
     ) -> Self {
-        let inputs: &'static [Words] = inputs.leak();
+        let inputs: &'static [Numbers] = inputs.leak();
         let pass = |f: Function| {
             move || {
                 black_box(black_box(f).fold(black_box(inputs)));
@@ -41,47 +41,41 @@ impl<'a> Timing<'a> {
     }
 
     /// A call that lends slices, and one of `gives` numbers for the result.
-    pub fn of_slices(
+    pub fn of_call<I: Input>(
         name: &'static str,
         set: &'static str,
-        inputs: Vec<Vec<Vec<f64>>>,
+        inputs: Vec<I>,
         gives: usize,
-        ours: impl Fn(&[Lent], Lent) -> u32 + 'a,
-        rust: impl Fn(&[&[f64]], &mut [f64]) -> u32 + 'a,
+        ours: &'a dyn Side,
+        rust: &'a dyn Side,
     ) -> Self {
-        let inputs: &'static [Vec<Vec<f64>>] = inputs.leak();
-        let slices: Vec<Vec<&[f64]>> = inputs.iter().map(|of| of.iter().map(Vec::as_slice).collect()).collect();
-        let lent: Vec<Vec<Lent>> = inputs
-            .iter()
-            .map(|of| of.iter().map(|x| Lent { at: x.as_ptr().cast_mut(), len: x.len() }).collect())
-            .collect();
-        let (mut our_out, mut rust_out) = (vec![0.0; gives], vec![0.0; gives]);
-        let our_pass = move || {
-            for x in black_box(&lent) {
-                let out = black_box(&mut our_out);
-                black_box(ours(x, Lent { at: out.as_mut_ptr(), len: out.len() }));
-            }
+        let inputs: &'static [I] = inputs.leak();
+        let lent: &'static [Ins] =
+            inputs.iter().map(|input| input.records().map(Lent::to_read)).collect::<Vec<_>>().leak();
+        let pass = |side: &'a dyn Side| {
+            let mut out = vec![0.0; gives];
+            move || side.pass(black_box(lent), Lent::to_write(&mut out))
         };
-        let rust_pass = move || {
-            for x in black_box(&slices) {
-                black_box(rust(x, black_box(&mut rust_out)));
-            }
-        };
-        Timing { name, set, ours: Box::new(our_pass), rust: Box::new(rust_pass) }
+        Timing { name, set, ours: Box::new(pass(ours)), rust: Box::new(pass(rust)) }
     }
 }
 
 /// Prints a line for each input set.
 pub fn bench(ops: &[Box<dyn Op>]) {
-    println!("{:<10} {:<24} {:>9} {:>9} {:>7}", "function", "inputs", "ours ns", "Rust ns", "ratio");
-    for mut timing in ops.iter().flat_map(|op| op.timings()) {
-        let (mut ours, mut rust) = (Vec::new(), Vec::new());
-        for _ in 0..ROUNDS {
-            ours.push(nanoseconds(&mut timing.ours));
-            rust.push(nanoseconds(&mut timing.rust));
+    println!("{:<22} {:<24} {:>9} {:>9} {:>7}", "function", "inputs", "ours ns", "Rust ns", "ratio");
+    for op in ops {
+        if let Some(note) = op.note() {
+            println!("{:<22} {note}", op.name());
         }
-        let (ours, rust) = (median(ours), median(rust));
-        println!("{:<10} {:<24} {ours:>9.2} {rust:>9.2} {:>7.2}", timing.name, timing.set, ours / rust);
+        for mut timing in op.timings() {
+            let (mut ours, mut rust) = (Vec::new(), Vec::new());
+            for _ in 0..ROUNDS {
+                ours.push(nanoseconds(&mut timing.ours));
+                rust.push(nanoseconds(&mut timing.rust));
+            }
+            let (ours, rust) = (median(ours), median(rust));
+            println!("{:<22} {:<24} {ours:>9.2} {rust:>9.2} {:>7.2}", timing.name, timing.set, ours / rust);
+        }
     }
 }
 

@@ -3,8 +3,18 @@
 //! The Rust's functions of numbers have the C signatures of ours, so that
 //! both are called, and timed, through the same kind of pointer.
 
+// Paper 01's refusals.
+
+pub const WRONG_INPUT: u32 = 1;
+pub const WRONG_OUTPUT: u32 = 2;
+/// A kind or flag outside its values.
+pub const NO_SUCH_VALUE: u32 = 3;
+pub const SINGULAR: u32 = 4;
+pub const MISS: u32 = 5;
+pub const NO_PROJECTION: u32 = 6;
+pub const OFF_GRID: u32 = 7;
+
 /// Paper 01's rule: equal bits, both NaN, or both zero.
-#[allow(dead_code)]
 pub fn matches(judge: f64, ours: f64) -> bool {
     judge.to_bits() == ours.to_bits() || (judge.is_nan() && ours.is_nan()) || (judge == 0.0 && ours == 0.0)
 }
@@ -38,24 +48,17 @@ pub extern "C" fn widen(x: f32) -> f64 {
     x as f64
 }
 
-/// The refusal of a point off the grid.
-pub const OFF_GRID: u32 = 7;
-
 /// The largest size of a grid coordinate.
 const LARGEST: u128 = 65_536;
 
 /// The whole centimetres of a point in metres, by whole numbers alone after
 /// the one rounded product.
-pub fn grid(p: &[f64], out: &mut [f64]) -> u32 {
+pub fn grid(p: &[f64; 3]) -> Result<[f64; 3], u32> {
     let mut whole = [0.0; 3];
     for (whole, metres) in whole.iter_mut().zip(p) {
-        match nearest_whole(metres * 100.0) {
-            Some(n) => *whole = n as f64,
-            None => return OFF_GRID,
-        }
+        *whole = nearest_whole(metres * 100.0).ok_or(OFF_GRID)? as f64;
     }
-    out.copy_from_slice(&whole);
-    0
+    Ok(whole)
 }
 
 /// The whole number nearest to `x`, halves away from zero, if `x` is finite
@@ -82,18 +85,13 @@ fn nearest_whole(x: f64) -> Option<i64> {
 }
 
 /// The grid as Rust would have it, with `f64::round`, to time against.
-#[inline(never)]
-pub fn grid_by_round(p: &[f64], out: &mut [f64]) -> u32 {
-    let (&[x, y, z], [a, b, c]) = (p, out) else {
-        return if p.len() != 3 { 1 } else { 2 };
-    };
-    let whole = [x, y, z].map(|metres| (metres * 100.0).round());
+pub fn grid_by_round(p: &[f64; 3]) -> Result<[f64; 3], u32> {
+    let whole = p.map(|metres| (metres * 100.0).round());
     if !whole.iter().all(|n| n.abs() <= LARGEST as f64) {
-        return OFF_GRID;
+        return Err(OFF_GRID);
     }
     // A sum with +0 turns -0 into +0.
-    [*a, *b, *c] = whole.map(|n| n + 0.0);
-    0
+    Ok(whole.map(|n| n + 0.0))
 }
 
 #[cfg(test)]
@@ -103,12 +101,9 @@ mod tests {
 
     #[test]
     fn the_papers_grid_points() {
-        let centimetres = |x: f64| {
-            let mut out = [9.0; 3];
-            (grid(&[x; 3], &mut out), out[0].to_bits())
-        };
-        let passes = |n: f64| (0, n.to_bits());
-        let refused = (OFF_GRID, 9.0_f64.to_bits());
+        let centimetres = |x: f64| grid(&[x; 3]).map(|whole| whole[0].to_bits());
+        let passes = |n: f64| Ok(n.to_bits());
+        let refused = Err(OFF_GRID);
         assert_eq!(centimetres(0.125), passes(13.0));
         assert_eq!(centimetres(-0.125), passes(-13.0));
         assert_eq!(centimetres(655.0), passes(65_500.0));
@@ -126,10 +121,8 @@ mod tests {
     fn the_exact_grid_is_that_of_round() {
         for case in 0..2_000_000 {
             let x = f64::from_bits(inputs::metres(&mut Rng::at(1, case)));
-            let (mut exact, mut round) = ([9.0; 3], [9.0; 3]);
-            let answers = (grid(&[x; 3], &mut exact), grid_by_round(&[x; 3], &mut round));
-            assert_eq!(answers.0, answers.1, "{x:e}");
-            assert_eq!(exact.map(f64::to_bits), round.map(f64::to_bits), "{x:e}");
+            let bits = |whole: [f64; 3]| whole.map(f64::to_bits);
+            assert_eq!(grid(&[x; 3]).map(bits), grid_by_round(&[x; 3]).map(bits), "{x:e}");
         }
     }
 }

@@ -1,22 +1,27 @@
 //! Compares the exported functions with their judges, times them, and
 //! records the judges' answers.
 //!
-//!     compare run COUNT [FUNCTION..]
+//!     compare run [COUNT] [FUNCTION..]
+//!     compare grid [COUNT]
 //!     compare bench [FUNCTION..]
-//!     compare record [FILE]
-#![cfg_attr(not(feature = "ours"), allow(dead_code))]
+//!     compare record [number|matrix|verdict] [FILE]
 
 mod bench;
 mod call;
+mod exact;
+mod exported;
+mod grid;
 mod inputs;
 mod judge;
 mod op;
 mod ops;
-mod ours;
 mod record;
 mod run;
+mod rust;
 mod scalar;
 
+use op::{Op, Trial};
+use record::File;
 use std::process::ExitCode;
 use std::{env, fs, io};
 
@@ -26,38 +31,65 @@ const COUNT: u64 = 3_000_000;
 fn main() -> ExitCode {
     let words: Vec<String> = env::args().skip(1).collect();
     let words: Vec<&str> = words.iter().map(String::as_str).collect();
-    match words[..] {
-        ["record"] => recorded(&mut io::stdout().lock()),
-        ["record", path] => match fs::File::create(path) {
-            Ok(file) => recorded(&mut io::BufWriter::new(file)),
-            Err(error) => failed(&format!("{path}: {error}")),
-        },
-        ["bench", ref names @ ..] if cfg!(feature = "ours") => match chosen(names) {
-            Ok(ops) => {
-                bench::bench(&ops);
-                ExitCode::SUCCESS
+    let done = match words[..] {
+        ["record", ref rest @ ..] => match rest {
+            [] => recorded(File::Number, None),
+            [name, path @ ..] if path.len() < 2 && File::named(name).is_some() => {
+                recorded(File::named(name).expect("just seen"), path.first().copied())
             }
-            Err(message) => failed(&message),
+            [path] => recorded(File::Number, Some(path)),
+            _ => Err(String::from("record [number|matrix|verdict] [FILE]")),
         },
-        ["run", ref rest @ ..] if cfg!(feature = "ours") => {
-            let (count, names) = match rest {
-                [first, names @ ..] if first.starts_with(|c: char| c.is_ascii_digit()) => (first.parse(), names),
-                names => (Ok(COUNT), names),
-            };
-            let seed = env::var("SEED").map_or(Ok(1), |seed| seed.parse());
-            match (count, seed, chosen(names)) {
-                (Ok(count), Ok(seed), Ok(ops)) if run::run(&ops, count, seed) => ExitCode::SUCCESS,
-                (Ok(_), Ok(_), Ok(_)) => ExitCode::FAILURE,
-                (_, _, Err(message)) => failed(&message),
-                _ => failed("COUNT and SEED are whole numbers"),
-            }
+        ["bench", ref names @ ..] => chosen(names).map(|ops| {
+            bench::bench(&ops);
+            true
+        }),
+        ["run", ref rest @ ..] => compared(rest),
+        ["grid", ref rest @ ..] => checked(rest),
+        _ => Err(String::from("run | grid | bench | record")),
+    };
+    match done {
+        Ok(true) => ExitCode::SUCCESS,
+        Ok(false) => ExitCode::FAILURE,
+        Err(message) => {
+            eprintln!("compare: {message}");
+            ExitCode::from(2)
         }
-        _ => failed("run [COUNT] [FUNCTION..] | bench [FUNCTION..] | record [FILE]"),
     }
 }
 
+fn compared(words: &[&str]) -> Result<bool, String> {
+    let (count, names) = counted(words)?;
+    let ops = chosen(names)?;
+    run::name_unknown(&ops::all());
+    Ok(run::run(ops.iter().map(|op| op.as_ref() as &dyn Trial), count, seed()?))
+}
+
+fn checked(words: &[&str]) -> Result<bool, String> {
+    let (count, []) = counted(words)? else {
+        return Err(String::from("grid [COUNT]"));
+    };
+    let ops = ops::all();
+    let trials = grid::all(&ops);
+    Ok(run::run(trials.iter().map(|trial| trial as &dyn Trial), count, seed()?))
+}
+
+/// The count that may come first, and the words after it.
+fn counted<'a, 'b>(words: &'a [&'b str]) -> Result<(u64, &'a [&'b str]), String> {
+    match words {
+        [first, rest @ ..] if first.starts_with(|c: char| c.is_ascii_digit()) => {
+            Ok((first.parse().map_err(|_| "COUNT is a whole number")?, rest))
+        }
+        rest => Ok((COUNT, rest)),
+    }
+}
+
+fn seed() -> Result<u64, String> {
+    env::var("SEED").map_or(Ok(1), |seed| seed.parse().map_err(|_| String::from("SEED is a whole number")))
+}
+
 /// The operations of these names, or all.
-fn chosen(names: &[&str]) -> Result<Vec<Box<dyn op::Op>>, String> {
+fn chosen(names: &[&str]) -> Result<Vec<Box<dyn Op>>, String> {
     let mut ops = ops::all();
     if let Some(unknown) = names.iter().find(|name| ops.iter().all(|op| op.name() != **name)) {
         return Err(format!("no function {unknown}"));
@@ -66,17 +98,13 @@ fn chosen(names: &[&str]) -> Result<Vec<Box<dyn op::Op>>, String> {
     Ok(ops)
 }
 
-fn recorded(to: &mut dyn io::Write) -> ExitCode {
-    match record::write(&ops::all(), to) {
-        Ok(vectors) => {
-            eprintln!("{vectors} vectors");
-            ExitCode::SUCCESS
-        }
-        Err(error) => failed(&error.to_string()),
-    }
-}
-
-fn failed(message: &str) -> ExitCode {
-    eprintln!("compare: {message}");
-    ExitCode::from(2)
+fn recorded(file: File, path: Option<&str>) -> Result<bool, String> {
+    let to: io::Result<Box<dyn io::Write>> = match path {
+        Some(path) => fs::File::create(path).map(|file| Box::new(io::BufWriter::new(file)) as _),
+        None => Ok(Box::new(io::stdout().lock())),
+    };
+    let written = to.and_then(|mut to| record::write(file, &ops::all(), &mut to));
+    let vectors = written.map_err(|error| format!("{}: {error}", path.unwrap_or("standard output")))?;
+    eprintln!("{vectors} vectors");
+    Ok(true)
 }

@@ -1,12 +1,37 @@
-//! What an exported function is to the harness.
+//! What is tried, and what an exported function is to the harness.
 
 use crate::bench::Timing;
+use crate::call::Side;
 use crate::inputs::Rng;
-use crate::record::Vector;
+use crate::record::Words;
 use std::ops::Range;
 
-/// How many kinds of outcome are counted.
-pub const OUTCOMES: usize = 8;
+/// The kinds of outcome that are counted.
+pub struct Outcome;
+
+impl Outcome {
+    pub const NAMES: [&'static str; 15] = [
+        "done",
+        "refused 1",
+        "refused 2",
+        "refused 3",
+        "refused 4",
+        "refused 5",
+        "refused 6",
+        "refused 7",
+        "no",
+        "yes",
+        "zero",
+        "subnormal",
+        "normal",
+        "infinite",
+        "NaN",
+    ];
+    pub const NO: usize = 8;
+    pub const YES: usize = 9;
+    /// The first of the kinds of number.
+    pub const NUMBER: usize = 10;
+}
 
 /// How many differing cases are described.
 const DESCRIBED: usize = 5;
@@ -18,7 +43,7 @@ pub struct Tally {
     pub differences: u64,
     /// The first differing cases, by number, with what differs.
     pub first: Vec<(u64, String)>,
-    pub outcomes: [u64; OUTCOMES],
+    pub outcomes: [u64; Outcome::NAMES.len()],
 }
 
 impl Tally {
@@ -34,28 +59,21 @@ impl Tally {
     }
 }
 
-/// An exported function and its judge.
-pub trait Op: Sync {
+/// Cases on which answers are compared.
+pub trait Trial: Sync {
     fn name(&self) -> &'static str;
+
+    /// What is to be said of the archive, if it lacks something.
+    fn note(&self) -> Option<&'static str>;
 
     /// How many cases to try where `count` are asked for.
     fn cases(&self, count: u64) -> u64;
 
-    /// Puts one case to both sides: the kind of outcome if they agree, else
-    /// nothing.
+    /// Tries one case: the kind of outcome if all agree, else nothing.
     fn agree(&self, case: u64, rng: Rng) -> Option<usize>;
 
     /// The input of a case and what each side answers.
     fn describe(&self, case: u64, rng: Rng) -> String;
-
-    /// The names of the kinds of outcome.
-    fn outcomes(&self) -> [&'static str; OUTCOMES];
-
-    /// Input sets with both sides to be timed on them.
-    fn timings(&self) -> Vec<Timing<'_>>;
-
-    /// Recorded answers, the judge's alone.
-    fn vectors(&self) -> Vec<Vector>;
 
     /// Tries a run of cases.
     fn compare(&self, cases: Range<u64>, seed: u64) -> Tally {
@@ -73,4 +91,21 @@ pub trait Op: Sync {
         }
         tally
     }
+}
+
+/// An exported function and its judge.
+pub trait Op: Trial {
+    /// Its code in the recorded answers.
+    fn code(&self) -> u64;
+
+    /// Input sets with both sides to be timed on them; none if the archive
+    /// lacks the function.
+    fn timings(&self) -> Vec<Timing<'_>>;
+
+    /// Recorded answers, the judge's alone.
+    fn vectors(&self) -> Vec<Words>;
+
+    /// The Rust and the archive's function, if it has one, of a call that
+    /// lends slices.
+    fn sides(&self) -> Option<[Option<&dyn Side>; 2]>;
 }

@@ -1,58 +1,135 @@
-//! Recorded answers, for programs that replay them: five words of eight
-//! bytes for each vector, the low byte first.
+//! Recorded answers, for programs that replay them: words of eight bytes, the
+//! low byte first. README.md has the three files' form.
 
 use crate::inputs::{self, Rng};
 use crate::judge;
-use crate::op::Op;
+use crate::op::{Op, Outcome};
 use std::io::{self, Write};
 
-/// One input and what is to be answered.
-pub struct Vector {
-    pub code: u64,
-    /// The second is 0 where there is one input.
-    pub input: [u64; 2],
-    /// An f32 has its bits in the low half. NaN is 0x7ff8000000000000, or
-    /// 0x7fc00000 for an f32.
-    pub output: u64,
-    /// 0, or the number of the refusal.
-    pub status: u64,
+/// The words of one input and what is to be answered.
+pub type Words = Vec<u64>;
+
+/// The three files.
+#[derive(Clone, Copy, PartialEq)]
+pub enum File {
+    Number,
+    Matrix,
+    Verdict,
 }
 
-impl Vector {
-    /// How many are recorded of one operation.
-    pub const AN_OPERATION: usize = 300;
-
-    fn words(&self) -> [u64; 5] {
-        [self.code, self.input[0], self.input[1], self.output, self.status]
+impl File {
+    /// The file of this name.
+    pub fn named(name: &str) -> Option<File> {
+        match name {
+            "number" => Some(File::Number),
+            "matrix" => Some(File::Matrix),
+            "verdict" => Some(File::Verdict),
+            _ => None,
+        }
     }
+
+    /// The file in which an operation of this code is recorded.
+    fn of(code: u64) -> File {
+        match code {
+            0..101 => File::Number,
+            101..201 => File::Matrix,
+            _ => File::Verdict,
+        }
+    }
+}
+
+/// The bits of a result, with one pattern for every NaN.
+#[inline]
+pub fn plain(bits: u64) -> u64 {
+    if f64::from_bits(bits).is_nan() { 0x7ff8_0000_0000_0000 } else { bits }
+}
+
+/// How many are recorded of a function of numbers and of the grid.
+pub const NUMBERS: usize = 300;
+
+/// The words of a function of numbers: always five.
+pub fn number(code: u64, input: [u64; 2], output: u64, status: u64) -> Words {
+    vec![code, input[0], input[1], output, status]
+}
+
+/// The words of a call that lends slices.
+pub fn call(code: u64, given: &[u64], status: u32, result: &[u64]) -> Words {
+    [&[code, given.len() as u64], given, &[status.into(), result.len() as u64], result].concat()
 }
 
 /// The code of a grid point whose three coordinates are one number; its
 /// output is the first coordinate, 0 on a refusal.
-const GRID: u64 = 7;
+pub const GRID: u64 = 7;
 
-pub fn grid() -> Vec<Vector> {
+pub fn grid() -> Vec<Words> {
     let notable = inputs::notable_metres().into_iter().chain(inputs::special());
     let drawn = (0..).map(|case| inputs::metres(&mut Rng::at(1, case)));
-    notable
-        .chain(drawn)
-        .take(Vector::AN_OPERATION)
-        .map(|x| {
-            let mut out = [0.0; 3];
-            let status = judge::grid(&[f64::from_bits(x); 3], &mut out);
-            Vector { code: GRID, input: [x, 0], output: out[0].to_bits(), status: status.into() }
-        })
-        .collect()
+    let vector = |x| match judge::grid(&[f64::from_bits(x); 3]) {
+        Ok(whole) => number(GRID, [x, 0], whole[0].to_bits(), 0),
+        Err(refusal) => number(GRID, [x, 0], 0, refusal.into()),
+    };
+    notable.chain(drawn).take(NUMBERS).map(vector).collect()
 }
 
-/// Writes the vectors of all operations.
-pub fn write(ops: &[Box<dyn Op>], to: &mut dyn Write) -> io::Result<usize> {
-    let vectors: Vec<Vector> = ops.iter().flat_map(|op| op.vectors()).collect();
-    for vector in &vectors {
-        for word in vector.words() {
-            to.write_all(&word.to_le_bytes())?;
-        }
+/// How many are recorded of a call at least, and how many of these at least
+/// are drawn.
+const CALLS: usize = 60;
+const DRAWN: usize = 20;
+
+/// How many are drawn to choose from.
+const CHOICE: u64 = 4000;
+
+/// The fixed inputs, and drawn ones of each kind of outcome in turn.
+pub fn sample<I: Copy>(fixed: &[I], drawn: impl Fn(u64) -> I, kind: impl Fn(&I) -> usize) -> Vec<I> {
+    let mut kinds = vec![Vec::new(); Outcome::NAMES.len()];
+    (0..CHOICE).map(drawn).for_each(|input| kinds[kind(&input)].push(input));
+    kinds.retain(|inputs| !inputs.is_empty());
+    let most = kinds.iter().map(Vec::len).max().unwrap_or(0);
+    let in_turn = (0..most).flat_map(|i| kinds.iter().filter_map(move |inputs| inputs.get(i).copied()));
+    let room = CALLS.saturating_sub(fixed.len()).max(DRAWN);
+    fixed.iter().copied().chain(in_turn.take(room)).collect()
+}
+
+/// Writes the vectors of all operations of a file.
+pub fn write(file: File, ops: &[Box<dyn Op>], to: &mut dyn Write) -> io::Result<usize> {
+    let of_file = ops.iter().filter(|op| File::of(op.code()) == file);
+    let vectors: Vec<Words> = of_file.flat_map(|op| op.vectors()).collect();
+    for word in vectors.iter().flatten() {
+        to.write_all(&word.to_le_bytes())?;
     }
     to.flush()?;
     Ok(vectors.len())
+}
+
+#[cfg(test)]
+mod tests {
+    use super::*;
+    use crate::ops;
+    use std::collections::BTreeSet;
+
+    /// Of each call every status that it has, and both a yes and a no.
+    #[test]
+    fn every_outcome_is_recorded() {
+        for op in ops::all().iter().filter(|op| File::of(op.code()) != File::Number) {
+            let seen: BTreeSet<(u64, Option<u64>)> = (op.vectors().iter())
+                .map(|words| {
+                    let at = 2 + words[1] as usize;
+                    let verdict = words[at + 1] == 1 && words[at + 2] < 2;
+                    (words[at], verdict.then(|| words[at + 2]))
+                })
+                .collect();
+            let statuses: BTreeSet<u64> = seen.iter().map(|&(status, _)| status).collect();
+            let refusal = match op.code() {
+                201..=205 | 216 | 221 | 222 => Some(3),
+                103 | 211 => Some(4),
+                214 | 215 => Some(5),
+                217 => Some(6),
+                _ => None,
+            };
+            assert_eq!(statuses, [0].into_iter().chain(refusal).collect(), "{}", op.name());
+            if matches!(op.code(), 109 | 110 | 210 | 218..=222) {
+                assert!(seen.contains(&(0, Some(0))) && seen.contains(&(0, Some(1))), "{}", op.name());
+            }
+        }
+    }
 }

@@ -1,28 +1,34 @@
 //! The comparison of all operations, on all cores.
 
-use crate::op::{Op, Tally};
+use crate::op::{Op, Outcome, Tally, Trial};
 use std::sync::Mutex;
 use std::sync::atomic::{AtomicU64, Ordering};
 use std::thread;
 use std::time::Instant;
 
 /// How many cases a thread takes at a time.
-const CHUNK: u64 = 1 << 14;
+const CHUNK: u64 = 1 << 12;
 
-/// Prints a line for each operation, and tells whether all agree.
-pub fn run(ops: &[Box<dyn Op>], count: u64, seed: u64) -> bool {
+/// Prints a line for each trial, and tells whether all agree.
+pub fn run<'a>(trials: impl Iterator<Item = &'a dyn Trial>, count: u64, seed: u64) -> bool {
     println!("seed {seed}");
     let mut good = true;
-    for op in ops {
+    for trial in trials {
+        let note = trial.note().map_or(String::new(), |note| format!("   {note}"));
+        let cases = trial.cases(count);
+        if cases == 0 {
+            println!("{:<22}{note}", trial.name());
+            continue;
+        }
         let start = Instant::now();
-        let tally = compare(op.as_ref(), op.cases(count), seed);
-        let outcomes: Vec<String> = (op.outcomes().iter().zip(tally.outcomes))
+        let tally = compare(trial, cases, seed);
+        let outcomes: Vec<String> = (Outcome::NAMES.iter().zip(tally.outcomes))
             .filter(|&(_, n)| n != 0)
             .map(|(name, n)| format!("{name} {n}"))
             .collect();
         println!(
-            "{:<10} {:>12} cases {:>12} differences   {:.1} s   agreed: {}",
-            op.name(),
+            "{:<22} {:>11} cases {:>11} differences   {:.1} s   agreed: {}{note}",
+            trial.name(),
             tally.cases,
             tally.differences,
             start.elapsed().as_secs_f64(),
@@ -36,7 +42,15 @@ pub fn run(ops: &[Box<dyn Op>], count: u64, seed: u64) -> bool {
     good
 }
 
-fn compare(op: &dyn Op, cases: u64, seed: u64) -> Tally {
+/// Names the archive's functions that no operation here is.
+pub fn name_unknown(ops: &[Box<dyn Op>]) {
+    let known = |name: &str| ops.iter().any(|op| Some(op.name()) == name.strip_prefix("gf_"));
+    for name in env!("GF_EXPORTED").split_whitespace().filter(|name| !known(name)) {
+        println!("{name} is exported, and unknown here");
+    }
+}
+
+fn compare(trial: &dyn Trial, cases: u64, seed: u64) -> Tally {
     let next = AtomicU64::new(0);
     let all = Mutex::new(Tally::default());
     let work = || {
@@ -45,7 +59,7 @@ fn compare(op: &dyn Op, cases: u64, seed: u64) -> Tally {
             if from >= cases {
                 return;
             }
-            let tally = op.compare(from..cases.min(from + CHUNK), seed);
+            let tally = trial.compare(from..cases.min(from + CHUNK), seed);
             all.lock().expect("no thread panics").add(tally);
         }
     };

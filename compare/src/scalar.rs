@@ -1,16 +1,17 @@
 //! Functions of one or two numbers.
 
 use crate::bench::Timing;
+use crate::call::Side;
 use crate::inputs::Rng;
-use crate::op::{OUTCOMES, Op};
-use crate::record::Vector;
+use crate::op::{Op, Outcome, Trial};
+use crate::record::{self, Words};
 use std::num::FpCategory;
 
 /// The bits of one or two numbers; the second is 0 where there is one.
-pub type Words = [u64; 2];
+pub type Numbers = [u64; 2];
 
 /// Draws an input, by its number and a generator.
-pub type Draw = fn(u64, &mut Rng) -> Words;
+pub type Draw = fn(u64, &mut Rng) -> Numbers;
 
 /// A function of numbers, by its signature.
 #[derive(Clone, Copy)]
@@ -23,7 +24,7 @@ pub enum Function {
 
 impl Function {
     #[inline]
-    fn call(self, [x, y]: Words) -> u64 {
+    fn call(self, [x, y]: Numbers) -> u64 {
         // These functions have no condition to be called.
         unsafe {
             match self {
@@ -37,8 +38,8 @@ impl Function {
 
     /// What the answers on all inputs add up to, by exclusive or. Which
     /// function it is is settled before the first call.
-    pub fn fold(self, inputs: &[Words]) -> u64 {
-        fn all(inputs: &[Words], call: impl Fn(Words) -> u64) -> u64 {
+    pub fn fold(self, inputs: &[Numbers]) -> u64 {
+        fn all(inputs: &[Numbers], call: impl Fn(Numbers) -> u64) -> u64 {
             inputs.iter().fold(0, |all, &input| all ^ call(input))
         }
         match self {
@@ -49,7 +50,7 @@ impl Function {
         }
     }
 
-    fn show_input(self, [x, y]: Words) -> String {
+    fn show_input(self, [x, y]: Numbers) -> String {
         match self {
             Function::Two(_) => format!("{}, {}", shown(x), shown(y)),
             Function::Widen(_) => shown_narrow(x),
@@ -70,29 +71,27 @@ impl Function {
         match self {
             Function::Narrow(_) if f32::from_bits(bits as u32).is_nan() => 0x7fc0_0000,
             Function::Narrow(_) => bits,
-            _ if f64::from_bits(bits).is_nan() => 0x7ff8_0000_0000_0000,
-            _ => bits,
+            _ => record::plain(bits),
         }
     }
 
-    /// The kind of an output, by the order of [`KINDS`].
+    /// The kind of an output.
     #[inline]
     fn kind(self, bits: u64) -> usize {
         let category = match self {
             Function::Narrow(_) => f32::from_bits(bits as u32).classify(),
             _ => f64::from_bits(bits).classify(),
         };
-        match category {
+        let kind = match category {
             FpCategory::Zero => 0,
             FpCategory::Subnormal => 1,
             FpCategory::Normal => 2,
             FpCategory::Infinite => 3,
             FpCategory::Nan => 4,
-        }
+        };
+        Outcome::NUMBER + kind
     }
 }
-
-const KINDS: [&str; OUTCOMES] = ["zero", "subnormal", "normal", "infinite", "NaN", "", "", ""];
 
 pub fn shown(bits: u64) -> String {
     format!("{bits:#018x} ({:e})", f64::from_bits(bits))
@@ -108,14 +107,16 @@ pub struct Scalar {
     pub name: &'static str,
     /// Its code in the recorded answers.
     pub code: u64,
-    pub ours: Function,
+    pub ours: Option<Function>,
     pub rust: Function,
     /// What is expected of an input to which the Rust answers this.
-    pub expected: fn(Words, u64) -> u64,
+    pub expected: fn(Numbers, u64) -> u64,
     /// Inputs that are recorded and always tried.
-    pub notable: Vec<Words>,
+    pub notable: Vec<Numbers>,
+    /// Inputs that are recorded besides.
+    pub more: Vec<Numbers>,
     /// Inputs that are always tried after these.
-    pub systematic: Vec<Words>,
+    pub systematic: Vec<Numbers>,
     /// Further inputs.
     pub drawn: Draw,
     /// How many there are, where the drawn inputs are all there are.
@@ -126,7 +127,7 @@ pub struct Scalar {
 
 impl Scalar {
     #[inline]
-    fn input(&self, case: u64, mut rng: Rng) -> Words {
+    fn input(&self, case: u64, mut rng: Rng) -> Numbers {
         let (notable, systematic) = (self.notable.len() as u64, self.systematic.len() as u64);
         if case >= notable + systematic {
             (self.drawn)(case - notable - systematic, &mut rng)
@@ -138,8 +139,12 @@ impl Scalar {
     }
 
     #[inline]
-    fn judge(&self, input: Words) -> u64 {
+    fn judge(&self, input: Numbers) -> u64 {
         (self.expected)(input, self.rust.call(input))
+    }
+
+    fn ours(&self) -> Function {
+        self.ours.expect("exported")
     }
 }
 
@@ -147,14 +152,19 @@ impl Scalar {
 /// counted out.
 const TRY_EVERY: u64 = 10_000_000;
 
-impl Op for Scalar {
+impl Trial for Scalar {
     fn name(&self) -> &'static str {
         self.name
+    }
+
+    fn note(&self) -> Option<&'static str> {
+        self.ours.is_none().then_some("not exported yet")
     }
 
     fn cases(&self, count: u64) -> u64 {
         let always = (self.notable.len() + self.systematic.len()) as u64;
         match self.every {
+            _ if self.ours.is_none() => 0,
             Some(every) if count >= TRY_EVERY => always + every,
             _ => count.max(always),
         }
@@ -163,8 +173,8 @@ impl Op for Scalar {
     #[inline]
     fn agree(&self, case: u64, rng: Rng) -> Option<usize> {
         let input = self.input(case, rng);
-        let (judge, ours) = (self.judge(input), self.ours.call(input));
-        (self.ours.plain(judge) == self.ours.plain(ours)).then(|| self.ours.kind(judge))
+        let (judge, ours) = (self.judge(input), self.ours().call(input));
+        (self.rust.plain(judge) == self.rust.plain(ours)).then(|| self.rust.kind(judge))
     }
 
     fn describe(&self, case: u64, rng: Rng) -> String {
@@ -172,31 +182,36 @@ impl Op for Scalar {
         format!(
             "{}({})\n      judge {}\n      ours  {}",
             self.name,
-            self.ours.show_input(input),
-            self.ours.show_output(self.judge(input)),
-            self.ours.show_output(self.ours.call(input))
+            self.rust.show_input(input),
+            self.rust.show_output(self.judge(input)),
+            self.rust.show_output(self.ours().call(input))
         )
     }
+}
 
-    fn outcomes(&self) -> [&'static str; OUTCOMES] {
-        KINDS
+impl Op for Scalar {
+    fn code(&self) -> u64 {
+        self.code
     }
 
     fn timings(&self) -> Vec<Timing<'_>> {
+        let Some(ours) = self.ours else {
+            return vec![];
+        };
         let timing = |&(set, draw): &(&'static str, Draw)| {
             let inputs = (0..Timing::CALLS as u64).map(|i| draw(i, &mut Rng::at(1, i))).collect();
-            Timing::of_numbers(self.name, set, inputs, self.ours, self.rust)
+            Timing::of_numbers(self.name, set, inputs, ours, self.rust)
         };
         self.sets.iter().map(timing).collect()
     }
 
-    fn vectors(&self) -> Vec<Vector> {
+    fn vectors(&self) -> Vec<Words> {
         let drawn = (0..).map(|case| (self.drawn)(case, &mut Rng::at(1, case)));
-        let inputs = self.notable.iter().copied().chain(drawn).take(Vector::AN_OPERATION);
-        let vector = |input| {
-            let output = self.rust.plain(self.judge(input));
-            Vector { code: self.code, input, output, status: 0 }
-        };
-        inputs.map(vector).collect()
+        let inputs = self.notable.iter().copied().chain(drawn).take(record::NUMBERS).chain(self.more.iter().copied());
+        inputs.map(|input| record::number(self.code, input, self.rust.plain(self.judge(input)), 0)).collect()
+    }
+
+    fn sides(&self) -> Option<[Option<&dyn Side>; 2]> {
+        None
     }
 }

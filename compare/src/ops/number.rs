@@ -1,12 +1,11 @@
-//! The exported functions: one function here for each.
+//! Functions of numbers, and the survey grid.
 
-use crate::call::Shape::Slice;
-use crate::call::{Call, Lent};
+use crate::exported::{call, of_archive};
 use crate::inputs::{self, Rng};
 use crate::op::Op;
 use crate::scalar::Function::{Narrow, One, Two, Widen};
-use crate::scalar::{Function, Scalar, Words};
-use crate::{judge, ours, record};
+use crate::scalar::{Function, Numbers, Scalar};
+use crate::{judge, record};
 
 pub fn all() -> Vec<Box<dyn Op>> {
     vec![sqrt(), abs(), min(), max(), narrow(), widen(), grid()]
@@ -16,10 +15,11 @@ fn sqrt() -> Box<dyn Op> {
     Box::new(Scalar {
         name: "sqrt",
         code: 1,
-        ours: One(ours::gf_sqrt),
+        ours: of_archive!(gf_sqrt: fn(x: f64) -> f64).map(One),
         rust: One(judge::sqrt),
         expected: |_, rust| rust,
         notable: ones([inputs::special(), inputs::squares()].concat()),
+        more: vec![],
         systematic: ones(inputs::systematic(11, 52)),
         drawn: |_, rng| [inputs::radicand(rng), 0],
         every: None,
@@ -36,10 +36,11 @@ fn abs() -> Box<dyn Op> {
     Box::new(Scalar {
         name: "abs",
         code: 2,
-        ours: One(ours::gf_abs),
+        ours: of_archive!(gf_abs: fn(x: f64) -> f64).map(One),
         rust: One(judge::abs),
         expected: |_, rust| rust,
         notable: ones(inputs::special()),
+        more: ones(inputs::equal_pairs().into_iter().map(|[x, _]| x).take(12).collect()),
         systematic: ones(inputs::systematic(11, 52)),
         drawn: |_, rng| [inputs::any(rng), 0],
         every: None,
@@ -48,14 +49,14 @@ fn abs() -> Box<dyn Op> {
 }
 
 fn min() -> Box<dyn Op> {
-    least_or_greatest("min", 3, Two(ours::gf_min), Two(judge::min))
+    least_or_greatest("min", 3, of_archive!(gf_min: fn(x: f64, y: f64) -> f64).map(Two), Two(judge::min))
 }
 
 fn max() -> Box<dyn Op> {
-    least_or_greatest("max", 4, Two(ours::gf_max), Two(judge::max))
+    least_or_greatest("max", 4, of_archive!(gf_max: fn(x: f64, y: f64) -> f64).map(Two), Two(judge::max))
 }
 
-fn least_or_greatest(name: &'static str, code: u64, ours: Function, rust: Function) -> Box<dyn Op> {
+fn least_or_greatest(name: &'static str, code: u64, ours: Option<Function>, rust: Function) -> Box<dyn Op> {
     Box::new(Scalar {
         name,
         code,
@@ -66,6 +67,7 @@ fn least_or_greatest(name: &'static str, code: u64, ours: Function, rust: Functi
             if f64::from_bits(x) == f64::from_bits(y) { x } else { rust }
         },
         notable: inputs::notable_pairs(),
+        more: inputs::equal_pairs(),
         systematic: inputs::special_pairs(),
         drawn: |_, rng| inputs::pair(rng),
         every: None,
@@ -77,10 +79,11 @@ fn narrow() -> Box<dyn Op> {
     Box::new(Scalar {
         name: "narrow",
         code: 5,
-        ours: Narrow(ours::gf_narrow),
+        ours: of_archive!(gf_narrow: fn(x: f64) -> f32).map(Narrow),
         rust: Narrow(judge::narrow),
         expected: |_, rust| rust,
         notable: ones([inputs::special(), inputs::ties()].concat()),
+        more: vec![],
         systematic: ones(inputs::systematic(11, 52)),
         drawn: |_, rng| [inputs::wide(rng), 0],
         every: None,
@@ -96,10 +99,11 @@ fn widen() -> Box<dyn Op> {
     Box::new(Scalar {
         name: "widen",
         code: 6,
-        ours: Widen(ours::gf_widen),
+        ours: of_archive!(gf_widen: fn(x: f32) -> f64).map(Widen),
         rust: Widen(judge::widen),
         expected: |_, rust| rust,
         notable: ones(inputs::narrow_special()),
+        more: vec![],
         systematic: ones(inputs::systematic(8, 23)),
         drawn: |case, _| [inputs::narrow_pattern(case), 0],
         every: Some(1 << 32),
@@ -108,24 +112,19 @@ fn widen() -> Box<dyn Op> {
 }
 
 fn grid() -> Box<dyn Op> {
-    fn on_grid(_: u64, rng: &mut Rng) -> Vec<Vec<f64>> {
-        vec![(0..3).map(|_| f64::from_bits(inputs::metres_on_grid(rng))).collect()]
+    fn on_grid(_: u64, rng: &mut Rng) -> ([f64; 3],) {
+        (std::array::from_fn(|_| f64::from_bits(inputs::metres_on_grid(rng))),)
     }
-    Box::new(Call {
-        name: "grid",
-        takes: &[Slice(3)],
-        gives: Slice(3),
-        drawn: |case, rng| vec![inputs::survey_point(case, rng).map(f64::from_bits).to_vec()],
-        ours: |p: &[Lent], out: Lent| unsafe { ours::gf_grid(p[0].at, p[0].len, out.at, out.len) },
-        judge: |p: &[&[f64]], out: &mut [f64]| judge::grid(p[0], out),
-        rust: |p: &[&[f64]], out: &mut [f64]| judge::grid_by_round(p[0], out),
-        agrees: judge::equal,
-        sets: vec![("on the grid", on_grid)],
-        vectors: record::grid,
-    })
+    call!(7 gf_grid(p: 3) -> [f64; 3] { judge::grid(p) })
+        .timed_against(call!(7 gf_grid(p: 3) -> [f64; 3] { judge::grid_by_round(p) }))
+        .bit_for_bit()
+        .drawn(|case, rng| (inputs::survey_point(case, rng).map(f64::from_bits),))
+        .timed("on the grid", on_grid)
+        .recorded(record::grid)
+        .op()
 }
 
 /// Inputs of one number each.
-fn ones(numbers: Vec<u64>) -> Vec<Words> {
+fn ones(numbers: Vec<u64>) -> Vec<Numbers> {
     numbers.into_iter().map(|x| [x, 0]).collect()
 }

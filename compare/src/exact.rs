@@ -1,0 +1,108 @@
+//! Exact verdicts on the farm grid, by whole numbers alone.
+
+use crate::inputs::{Whole, WholePlane};
+
+/// Whether a point satisfies all planes.
+pub fn point(planes: &[WholePlane], p: Whole) -> bool {
+    planes.iter().all(|plane| plane.reach(p) >= 0)
+}
+
+/// A fraction whose denominator is above zero.
+type Fraction = (i128, i128);
+
+fn less((a, b): Fraction, (c, d): Fraction) -> bool {
+    a * d < c * b
+}
+
+/// Whether some exact point of the closed segment satisfies all planes.
+///
+/// The point m/k of the way along satisfies a plane if reach(p0) and m/k
+/// times the rise to reach(p1) are not below zero together: a least or a
+/// greatest m/k for each plane.
+pub fn segment(planes: &[WholePlane], p0: Whole, p1: Whole) -> bool {
+    let (mut least, mut greatest): (Fraction, Fraction) = ((0, 1), (1, 1));
+    for plane in planes {
+        let reach = i128::from(plane.reach(p0));
+        let rise = i128::from(plane.reach(p1)) - reach;
+        if rise == 0 && reach < 0 {
+            return false;
+        }
+        if rise > 0 && less(least, (-reach, rise)) {
+            least = (-reach, rise);
+        }
+        if rise < 0 && less((reach, -rise), greatest) {
+            greatest = (reach, -rise);
+        }
+    }
+    !less(greatest, least)
+}
+
+/// The least and the greatest coordinates that axis planes allow, where they
+/// bound them.
+fn allowed(planes: &[WholePlane]) -> [Whole; 2] {
+    let (mut least, mut greatest) = ([i64::MIN; 3], [i64::MAX; 3]);
+    for plane in planes {
+        let axis = (0..3).find(|&i| plane.normal[i] != 0).expect("an axis plane");
+        if plane.normal[axis] > 0 {
+            least[axis] = least[axis].max(plane.distance);
+        } else {
+            greatest[axis] = greatest[axis].min(-plane.distance);
+        }
+    }
+    [least, greatest]
+}
+
+/// Whether axis planes share an exact point. Bounds are whole, so a whole
+/// point is shared if any is.
+pub fn share_a_point(planes: &[WholePlane]) -> bool {
+    let [least, greatest] = allowed(planes);
+    (0..3).all(|i| least[i] <= greatest[i])
+}
+
+/// Whether a placed box, from its least to its greatest corner, and the view
+/// of axis planes share an exact point.
+pub fn placed_box(planes: &[WholePlane], [from, to]: [Whole; 2]) -> bool {
+    let [least, greatest] = allowed(planes);
+    (0..3).all(|i| least[i].max(from[i]) <= greatest[i].min(to[i]))
+}
+
+#[cfg(test)]
+mod tests {
+    use super::*;
+    use crate::inputs::{FarmBox, Turn};
+
+    /// Paper 01's cube and marked verdicts, but for the tenth: an empty range
+    /// is no grid box.
+    #[test]
+    fn the_marked_verdicts() {
+        let plane = |normal, distance| WholePlane { normal, distance };
+        let cube = [
+            plane([1, 0, 0], 0),
+            plane([-1, 0, 0], -10),
+            plane([0, 1, 0], 0),
+            plane([0, -1, 0], -10),
+            plane([0, 0, 1], 0),
+            plane([0, 0, -1], -10),
+        ];
+        let segment = |a, b| segment(&cube, a, b);
+        let unplaced = |min, max| placed_box(&cube, [min, max]);
+        let turned = |x| {
+            let is_it = |turn: &Turn| turn.rows() == [[0, 1, 0], [-1, 0, 0], [0, 0, 1]];
+            let mut placement = (0..Turn::COUNT).map(Turn::numbered).find(is_it).expect("a turn");
+            placement.translation = [x, 0, 0];
+            placed_box(&cube, FarmBox { min: [0; 3], max: [1; 3], placement, flag: false }.placed())
+        };
+        assert!(share_a_point(&cube));
+        assert!(point(&cube, [0, 0, 0]));
+        assert!(!point(&cube, [11, 5, 5]));
+        assert!(segment([-5, 5, 5], [15, 5, 5]));
+        assert!(segment([-5, 5, 5], [5, -5, 5]));
+        assert!(!segment([-6, 5, 5], [5, -6, 5]));
+        assert!(!segment([-1, 0, 0], [-1, 10, 10]));
+        assert!(!segment([11, 5, 5], [11, 5, 5]));
+        assert!(unplaced([10, 0, 0], [12, 1, 1]));
+        assert!(!unplaced([11, 0, 0], [12, 1, 1]));
+        assert!(turned(0));
+        assert!(!turned(-1));
+    }
+}

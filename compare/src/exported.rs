@@ -1,0 +1,86 @@
+//! An exported function, stated once: the C declaration of the archive's and
+//! the Rust reference come from the same line.
+
+/// The archive's function of this name, if it has one.
+macro_rules! of_archive {
+    ($name:ident: fn($($parameter:tt: $type:ty),* $(,)?) -> $result:ty) => {{
+        #[cfg($name)]
+        let found = {
+            unsafe extern "C" {
+                fn $name($($parameter: $type),*) -> $result;
+            }
+            Some($name as unsafe extern "C" fn($($type),*) -> $result)
+        };
+        #[cfg(not($name))]
+        let found = None::<unsafe extern "C" fn($($type),*) -> $result>;
+        found
+    }};
+}
+
+/// A call, by its code in the recorded answers, its C name, its parameters
+/// and its result: `gf_x(slice: length, ..; number) -> result { reference }`.
+///
+/// The result is `[f64; length]` for a lent slice, `f64` for a lone number
+/// and `bool` for a yes or no. The reference sees slices of the right
+/// lengths, as arrays, and gives the result or the number of a refusal.
+macro_rules! call {
+    ($code:literal $name:ident($($parameters:tt)*) -> [f64; $m:literal] $body:block) => {
+        call!(@ $code $name [$($parameters)*] [f64; $m] $body out (*mut f64, usize) (out.at, out.len))
+    };
+    ($code:literal $name:ident($($parameters:tt)*) -> f64 $body:block) => {
+        call!(@ $code $name [$($parameters)*] f64 $body out (*mut f64) (out.at))
+    };
+    ($code:literal $name:ident($($parameters:tt)*) -> bool $body:block) => {
+        call!(@ $code $name [$($parameters)*] bool $body out (*mut u32) (out.at.cast::<u32>()))
+    };
+    (@ $code:literal $name:ident [$($in:ident: $n:literal),* $(; $number:ident)?] $answer:ty $body:block
+        $out:ident ($($c_type:ty),*) ($($c_argument:expr),*)) => {{
+        use $crate::call::{Answer, Call, Ins, Lent, Pointer, Shape, Side};
+
+        type Ours = unsafe extern "C" fn($($in: *const f64, _: usize,)* $($number: f64,)? $($c_type),*) -> u32;
+        type Rust = fn($($in: &[f64],)* $($number: f64,)? &mut <$answer as Answer>::Lent) -> u32;
+
+        fn rust($($in: &[f64],)* $($number: f64,)? out: &mut <$answer as Answer>::Lent) -> u32 {
+            $(let Ok($in) = <&[f64; $n]>::try_from($in) else {
+                return $crate::judge::WRONG_INPUT;
+            };)*
+            if !<$answer as Answer>::fits(out) {
+                return $crate::judge::WRONG_OUTPUT;
+            }
+            let answer = || -> Result<$answer, u32> { $body };
+            match answer() {
+                Ok(answer) => {
+                    answer.store(out);
+                    0
+                }
+                Err(refusal) => refusal,
+            }
+        }
+
+        let ours: Option<Ours> =
+            of_archive!($name: fn($($in: *const f64, _: usize,)* $($number: f64,)? $(_: $c_type),*) -> u32);
+        // What is lent is as long as it says, and is not lent twice.
+        let ours = ours.map(|f| -> Box<dyn Side> {
+            Box::new(Pointer(f, |f: Ours, ins: &Ins, $out: Lent| unsafe {
+                let [$($in,)* $($number,)? ..] = *ins;
+                f($($in.at.cast_const(), $in.len,)* $(*$number.at,)? $($c_argument),*)
+            }))
+        });
+        let rust = Box::new(Pointer(rust as Rust, |f: Rust, ins: &Ins, out: Lent| unsafe {
+            let [$($in,)* $($number,)? ..] = *ins;
+            f($($in.slice(),)* $(*$number.at,)? <$answer as Answer>::lent(out))
+        }));
+        Call::<($([f64; $n],)* $(call!(@f64 $number),)?)>::new(
+            stringify!($name),
+            $code,
+            &[$(Shape::Slice($n),)* $(call!(@lone $number),)?],
+            <$answer as Answer>::SHAPE,
+            ours,
+            rust,
+        )
+    }};
+    (@f64 $number:ident) => { f64 };
+    (@lone $number:ident) => { Shape::Number };
+}
+
+pub(crate) use {call, of_archive};

@@ -1,0 +1,251 @@
+//! The farm grid by a second judge, exact whole numbers: verdicts, turns and
+//! combining. The Rust is judged as the archive is.
+
+use crate::call::{Lent, Side};
+use crate::exact;
+use crate::inputs::{self, FarmBox, Rng, Turn, Whole, WholePlane, farm_volume, floats, on_grid};
+use crate::op::{Op, Outcome, Trial};
+use std::array;
+use std::fmt::Debug;
+
+/// A function that is asked, by its name.
+#[derive(Clone, Copy)]
+enum Ask {
+    Point,
+    Segment,
+    Box,
+    Transform,
+    Product,
+    Combine,
+    AlignedRange,
+}
+
+const NAMES: [&str; 7] = [
+    "intersects_point",
+    "intersects_segment",
+    "intersects_bbox",
+    "transform",
+    "product",
+    "bbox_combine",
+    "bbox_aligned_range",
+];
+
+/// One who answers: the Rust, or the archive.
+struct Engine<'a> {
+    who: &'static str,
+    functions: [Option<&'a dyn Side>; NAMES.len()],
+}
+
+impl Engine<'_> {
+    fn call(&self, ask: Ask, records: &[&[f64]], out: Lent) -> Result<(), String> {
+        let mut ins = [Lent::NONE; 4];
+        for (lent, record) in ins.iter_mut().zip(records) {
+            *lent = Lent::to_read(record);
+        }
+        match self.functions[ask as usize].expect("asked only if exported").call(&ins, out) {
+            0 => Ok(()),
+            refusal => Err(format!("{} of {} is refused: {refusal}", NAMES[ask as usize], self.who)),
+        }
+    }
+
+    fn numbers<const N: usize>(&self, ask: Ask, records: &[&[f64]]) -> Result<[f64; N], String> {
+        let mut out = [0.0; N];
+        self.call(ask, records, Lent::to_write(&mut out))?;
+        Ok(out)
+    }
+
+    fn verdict(&self, ask: Ask, records: &[&[f64]]) -> Result<bool, String> {
+        let mut out = [0.0];
+        self.call(ask, records, Lent::to_write(&mut out))?;
+        Ok(out[0].to_bits() as u32 == 1)
+    }
+
+    /// Whether an answer is the one expected.
+    fn expect<T: PartialEq + Debug>(&self, what: &str, answer: T, expected: T, of: &dyn Debug) -> Result<(), String> {
+        if answer == expected {
+            return Ok(());
+        }
+        Err(format!("{what} of {}: {answer:?}, exactly {expected:?}\n      {of:?}", self.who))
+    }
+
+    /// A point moved by a turn, which is to be where it is exactly.
+    fn moved(&self, turn: &Turn, p: Whole) -> Result<[f64; 3], String> {
+        let moved = self.numbers(Ask::Transform, &[&turn.matrix(), &floats(p)])?;
+        self.expect("a point turned", moved, floats(turn.point(p)), &(turn, p))?;
+        Ok(moved)
+    }
+}
+
+/// Draws a case and asks all engines: the kind of outcome, or what differs.
+type Try = fn(&[Engine], u64, &mut Rng) -> Result<usize, String>;
+
+pub struct Farm<'a> {
+    name: &'static str,
+    tried: Try,
+    engines: Vec<Engine<'a>>,
+    lacking: bool,
+}
+
+pub fn all(ops: &[Box<dyn Op>]) -> Vec<Farm<'_>> {
+    let farm = |name, needs: &[Ask], tried| {
+        let side = |of: usize, name: &str| ops.iter().find(|op| op.name() == name)?.sides()?[of];
+        let engine = |(of, who)| Engine { who, functions: NAMES.map(|name| side(of, name)) };
+        let able = |engine: &Engine| needs.iter().all(|&ask| engine.functions[ask as usize].is_some());
+        let engines: Vec<Engine> = [(0, "the Rust"), (1, "ours")].map(engine).into_iter().filter(able).collect();
+        let lacking = engines.len() < 2;
+        Farm { name, tried, engines, lacking }
+    };
+    vec![
+        farm("points", &[Ask::Point], points),
+        farm("segments", &[Ask::Segment], segments),
+        farm("boxes", &[Ask::Box], boxes),
+        farm("turned points", &[Ask::Point, Ask::Transform], turned_points),
+        farm("turned segments", &[Ask::Segment, Ask::Transform], turned_segments),
+        farm("turned boxes", &[Ask::Box, Ask::Product], turned_boxes),
+        farm("combined boxes", &[Ask::Combine, Ask::AlignedRange], combined),
+    ]
+}
+
+fn outcome(verdict: bool) -> usize {
+    if verdict { Outcome::YES } else { Outcome::NO }
+}
+
+fn points(engines: &[Engine], _: u64, rng: &mut Rng) -> Result<usize, String> {
+    let (planes, p) = inputs::farm_point(rng);
+    let exact = exact::point(&planes, p);
+    for engine in engines {
+        let verdict = engine.verdict(Ask::Point, &[&farm_volume(&planes), &floats(p)])?;
+        engine.expect("a point", verdict, exact, &(planes, p))?;
+    }
+    Ok(outcome(exact))
+}
+
+fn segments(engines: &[Engine], _: u64, rng: &mut Rng) -> Result<usize, String> {
+    let (planes, a, b) = inputs::farm_segment(rng);
+    let exact = exact::segment(&planes, a, b);
+    for engine in engines {
+        let verdict = engine.verdict(Ask::Segment, &[&farm_volume(&planes), &floats(a), &floats(b)])?;
+        engine.expect("a segment", verdict, exact, &(planes, a, b))?;
+    }
+    Ok(outcome(exact))
+}
+
+fn boxes(engines: &[Engine], _: u64, rng: &mut Rng) -> Result<usize, String> {
+    let (planes, given) = loop {
+        let drawn = inputs::farm_box_view(rng);
+        if exact::share_a_point(&drawn.0) {
+            break drawn;
+        }
+    };
+    let exact = exact::placed_box(&planes, given.placed());
+    for engine in engines {
+        let verdict = engine.verdict(Ask::Box, &[&farm_volume(&planes), &given.record()])?;
+        engine.expect("a box", verdict, exact, &(planes, given))?;
+    }
+    Ok(outcome(exact))
+}
+
+/// Planes under a turn, where they stay within the limits.
+fn turned(planes: &[WholePlane; 6], turn: &Turn) -> [WholePlane; 6] {
+    planes.map(|plane| turn.plane(&plane))
+}
+
+fn turn_of(rng: &mut Rng, case: u64, planes: &[WholePlane; 6], holds: impl Fn(&Turn) -> bool) -> Turn {
+    inputs::turn_within(rng, case, |turn| turned(planes, turn).iter().all(WholePlane::within_limits) && holds(turn))
+}
+
+fn turned_points(engines: &[Engine], case: u64, rng: &mut Rng) -> Result<usize, String> {
+    let (planes, p) = inputs::farm_point(rng);
+    let turn = turn_of(rng, case, &planes, |turn| on_grid(turn.point(p)));
+    let before = exact::point(&planes, p);
+    for engine in engines {
+        let verdict = engine.verdict(Ask::Point, &[&farm_volume(&planes), &floats(p)])?;
+        engine.expect("a point", verdict, before, &(planes, p))?;
+        let moved = engine.moved(&turn, p)?;
+        let after = engine.verdict(Ask::Point, &[&farm_volume(&turned(&planes, &turn)), &moved])?;
+        engine.expect("a point turned with its planes", after, before, &(planes, p, turn))?;
+    }
+    Ok(outcome(before))
+}
+
+fn turned_segments(engines: &[Engine], case: u64, rng: &mut Rng) -> Result<usize, String> {
+    let (planes, a, b) = inputs::farm_segment(rng);
+    let turn = turn_of(rng, case, &planes, |turn| on_grid(turn.point(a)) && on_grid(turn.point(b)));
+    let before = exact::segment(&planes, a, b);
+    for engine in engines {
+        let verdict = engine.verdict(Ask::Segment, &[&farm_volume(&planes), &floats(a), &floats(b)])?;
+        engine.expect("a segment", verdict, before, &(planes, a, b))?;
+        let ends = [engine.moved(&turn, a)?, engine.moved(&turn, b)?];
+        let after = engine.verdict(Ask::Segment, &[&farm_volume(&turned(&planes, &turn)), &ends[0], &ends[1]])?;
+        engine.expect("a segment turned with its planes", after, before, &(planes, a, b, turn))?;
+    }
+    Ok(outcome(before))
+}
+
+fn turned_boxes(engines: &[Engine], case: u64, rng: &mut Rng) -> Result<usize, String> {
+    let (planes, given) = inputs::farm_box_view(rng);
+    let after = |turn: &Turn| FarmBox { placement: given.placement.then(turn), ..given };
+    let turn = turn_of(rng, case, &planes, |turn| after(turn).within_limits());
+    let mut kind = 0;
+    for engine in engines {
+        // The planes need not share a point for this.
+        let before = engine.verdict(Ask::Box, &[&farm_volume(&planes), &given.record()])?;
+        if exact::share_a_point(&planes) {
+            engine.expect("a box", before, exact::placed_box(&planes, given.placed()), &(planes, given))?;
+        }
+        let placement: [f64; 16] = engine.numbers(Ask::Product, &[&given.placement.matrix(), &turn.matrix()])?;
+        engine.expect("a placement turned", placement, after(&turn).placement.matrix(), &(given, turn))?;
+        let mut moved = given.record();
+        moved[6..22].copy_from_slice(&placement);
+        let verdict = engine.verdict(Ask::Box, &[&farm_volume(&turned(&planes, &turn)), &moved])?;
+        engine.expect("a box turned with its planes", verdict, before, &(planes, given, turn))?;
+        kind = outcome(before);
+    }
+    Ok(kind)
+}
+
+/// The most boxes in a list.
+const LIST: u64 = 8;
+
+fn combined(engines: &[Engine], _: u64, rng: &mut Rng) -> Result<usize, String> {
+    let list: Vec<FarmBox> = (0..1 + rng.below(LIST)).map(|_| inputs::farm_box(rng)).collect();
+    let extreme = |of: usize, pick: fn(i64, i64) -> i64| -> Whole {
+        array::from_fn(|i| list.iter().map(|b| b.placed()[of][i]).reduce(pick).expect("a box"))
+    };
+    let exact: [f64; 6] = inputs::joined(&[&floats(extreme(0, i64::min)), &floats(extreme(1, i64::max))]);
+    let order = rng.bits();
+    for engine in engines {
+        let rng = &mut Rng::at(order, 0);
+        let mut left: Vec<[f64; 23]> = list.iter().map(FarmBox::record).collect();
+        while left.len() > 1 {
+            let a = left.swap_remove(rng.below(left.len() as u64) as usize);
+            let b = left.swap_remove(rng.below(left.len() as u64) as usize);
+            left.push(engine.numbers(Ask::Combine, &[&a, &b])?);
+        }
+        let range = engine.numbers(Ask::AlignedRange, &[&left[0]])?;
+        engine.expect("the range of boxes combined", range, exact, &list)?;
+    }
+    Ok(0)
+}
+
+impl Trial for Farm<'_> {
+    fn name(&self) -> &'static str {
+        self.name
+    }
+
+    fn note(&self) -> Option<&'static str> {
+        self.lacking.then_some("the Rust alone: not exported yet")
+    }
+
+    fn cases(&self, count: u64) -> u64 {
+        count
+    }
+
+    fn agree(&self, case: u64, mut rng: Rng) -> Option<usize> {
+        (self.tried)(&self.engines, case, &mut rng).ok()
+    }
+
+    fn describe(&self, case: u64, mut rng: Rng) -> String {
+        (self.tried)(&self.engines, case, &mut rng).err().unwrap_or_default()
+    }
+}

@@ -1,0 +1,36 @@
+//! The exported functions: one function here for each, in the order of their
+//! codes.
+
+mod bbox;
+mod matrix;
+mod number;
+mod plane;
+mod projection;
+mod range;
+mod ray;
+mod verdict;
+
+use crate::op::Op;
+
+pub fn all() -> Vec<Box<dyn Op>> {
+    let files = [
+        number::all(),
+        matrix::all(),
+        range::all(),
+        bbox::all(),
+        plane::all(),
+        ray::all(),
+        projection::all(),
+        verdict::all(),
+    ];
+    files.into_iter().flatten().collect()
+}
+
+#[cfg(test)]
+mod tests {
+    #[test]
+    fn codes_are_in_the_order_of_the_functions() {
+        let codes: Vec<u64> = super::all().iter().map(|op| op.code()).collect();
+        assert_eq!(codes, (1..=7).chain(101..=116).chain(201..=222).collect::<Vec<u64>>());
+    }
+}

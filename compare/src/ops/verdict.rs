@@ -1,0 +1,273 @@
+//! Verdicts on what is in a volume.
+
+use crate::exported::{call, of_archive};
+use crate::inputs::{self, Boxed, CUBE, IDENTITY, Matrix, Point, Range, Volume, box_of, diagonal, with};
+use crate::op::Op;
+use crate::rust::{boxed, boxed_without_inverse, matrix, planes, point, rays};
+use openusd::gf;
+
+pub fn all() -> Vec<Box<dyn Op>> {
+    vec![of_point(), of_segment(), of_triangle(), of_box(), of_view_volume()]
+}
+
+const NAN: f64 = f64::NAN;
+const FAR: f64 = f64::INFINITY;
+const UNIT: Range = [0.0, 0.0, 0.0, 1.0, 1.0, 1.0];
+
+fn of_point() -> Box<dyn Op> {
+    let points: [Point; 19] = [
+        // Two of the marked verdicts.
+        [0.0, 0.0, 0.0],
+        [11.0, 5.0, 5.0],
+        // Outside each plane alone, and on it.
+        [-1.0, 5.0, 5.0],
+        [5.0, -1.0, 5.0],
+        [5.0, 11.0, 5.0],
+        [5.0, 5.0, -1.0],
+        [5.0, 5.0, 11.0],
+        [10.0, 10.0, 10.0],
+        [10.000000000000002, 5.0, 5.0],
+        [5.0, 5.0, 10.000000000000002],
+        [-5e-324, 5.0, 5.0],
+        [-0.0, 5.0, 5.0],
+        [5.0, 5.0, 5.0],
+        // What is not finite fails planes of other axes too.
+        [NAN, 5.0, 5.0],
+        [5.0, 5.0, NAN],
+        [FAR, 5.0, 5.0],
+        [5.0, -FAR, 5.0],
+        [1e308, 1e308, 1e308],
+        [0.5, 0.5, 0.5],
+    ];
+    let short = [2, 10, 18].map(|i: usize| with(CUBE, &[(i % 4, 1e-13)]));
+    let fixed = points.map(|p| (CUBE, p)).into_iter();
+    let more =
+        [(short[0], [0.5; 3]), ([0.0; 48], [1.0; 3]), ([NAN; 48], [1.0; 3]), (with(CUBE, &[(3, NAN)]), [5.0; 3])];
+    call!(218 gf_intersects_point(volume: 48, p: 3) -> bool { Ok(planes(volume).intersects_point(point(p))) })
+        .fixed(fixed.chain(more).collect())
+        .drawn(|_, rng| inputs::volume_and_point(rng))
+        .timed("frustums", |_, rng| {
+            let (volume, p, ..) = inputs::asked(rng);
+            (volume, p)
+        })
+        .op()
+}
+
+fn of_segment() -> Box<dyn Op> {
+    let tiny = 2.0_f64.powi(-534);
+    // Its distances differ by a number whose product with the way is 0.
+    let underflow = with(CUBE, &[(0, 2.0_f64.powi(-540)), (3, 5e-324)]);
+    let segments: [(Point, Point); 20] = [
+        // The marked verdicts.
+        ([-5.0, 5.0, 5.0], [15.0, 5.0, 5.0]),
+        ([-5.0, 5.0, 5.0], [5.0, -5.0, 5.0]),
+        ([-6.0, 5.0, 5.0], [5.0, -6.0, 5.0]),
+        ([-1.0, 0.0, 0.0], [-1.0, 10.0, 10.0]),
+        ([11.0, 5.0, 5.0], [11.0, 5.0, 5.0]),
+        // Through an edge and a corner, and beside them.
+        ([15.0, 5.0, 5.0], [5.0, 15.0, 5.0]),
+        ([15.0, 5.0, 5.000000001], [5.0, 15.000000001, 5.0]),
+        ([-1.0, -1.0, 1.0], [1.0, 1.0, -1.0]),
+        ([-5.0, 5.0, 0.0], [5.0, -5.0, 0.0]),
+        ([-5.0, -5.0, 5.0], [5.0, 5.0, -5.0]),
+        ([-5.0, -5.0, 6.0], [5.0, 5.0, -7.0]),
+        // An end inside, an end on a plane, both inside.
+        ([5.0, 5.0, 5.0], [50.0, 5.0, 5.0]),
+        ([50.0, 5.0, 5.0], [10.0, 5.0, 5.0]),
+        ([1.0, 2.0, 3.0], [4.0, 5.0, 6.0]),
+        ([-0.0, 20.0, 5.0], [-0.0, -20.0, 5.0]),
+        // A crossing that is NaN is passed over: exactly, this is outside.
+        ([-1.2e308, 20.0, 5.0], [1.3e308, -1e6, 5.0]),
+        ([1.3e308, -1e6, 5.0], [-1.2e308, 20.0, 5.0]),
+        ([NAN, 5.0, 5.0], [5.0, 5.0, 50.0]),
+        ([-FAR, 5.0, 5.0], [FAR, 5.0, 5.0]),
+        ([-1e200, 5.0, 5.0], [1e200, 5.0, 5.0]),
+    ];
+    let between = with(CUBE, &[(9, 2.0_f64.powi(-540)), (11, 5e-324)]);
+    let more = [
+        (underflow, [0.4 * tiny, 5.0, 5.0], [0.6 * tiny, -1.0, 5.0]),
+        (underflow, [0.6 * tiny, -1.0, 5.0], [0.4 * tiny, 5.0, 5.0]),
+        // Left at 0.2 and entered at 0.5, and in between NaN.
+        (between, [8.0, 0.6 * tiny, -5.0], [18.0, 0.4 * tiny, 5.0]),
+        (between, [18.0, 0.4 * tiny, 5.0], [8.0, 0.6 * tiny, -5.0]),
+    ];
+    let ties = (0..16).map(|case| {
+        let (planes, a, b) = inputs::near_tie(&mut inputs::Rng::at(2, case));
+        (inputs::farm_volume(&planes), inputs::floats(a), inputs::floats(b))
+    });
+    call!(219 gf_intersects_segment(volume: 48, p0: 3, p1: 3) -> bool {
+        Ok(planes(volume).intersects_segment(point(p0), point(p1)))
+    })
+    .fixed(segments.map(|(a, b)| (CUBE, a, b)).into_iter().chain(more).chain(ties).collect())
+    .drawn(|_, rng| inputs::volume_and_segment(rng))
+    .timed("frustums", |_, rng| {
+        let (volume, a, b, ..) = inputs::asked(rng);
+        (volume, a, b)
+    })
+    .op()
+}
+
+fn of_triangle() -> Box<dyn Op> {
+    // The cube with all rays but some pointing away.
+    let rays_at = |which: &[usize]| -> Volume {
+        let mut volume = CUBE;
+        for (i, [x, y]) in [[0.0, 0.0], [0.0, 10.0], [10.0, 10.0], [10.0, 0.0]].into_iter().enumerate() {
+            let z = if which.contains(&i) { 1.0 } else { -1.0 };
+            volume[24 + 6 * i..][..6].copy_from_slice(&[x, y, 0.0, 0.0, 0.0, z]);
+        }
+        volume
+    };
+    // Around the cube, between planes 4 and 5, and through each of these.
+    let around = |z: [f64; 3]| [[-30.0, -30.0, z[0]], [60.0, -30.0, z[1]], [-30.0, 60.0, z[2]]];
+    let levels = [around([5.0; 3]), around([5.0, -9.0, 5.0]), around([5.0, 5.0, 19.0]), around([1.0, 9.0, 10.0])];
+    let mut fixed: Vec<(Volume, [Point; 3])> = vec![];
+    for which in [&[0, 1, 2, 3][..], &[], &[0], &[1], &[2], &[3]] {
+        fixed.extend(levels.map(|triangle| (rays_at(which), triangle)));
+    }
+    let all = rays_at(&[0, 1, 2, 3]);
+    fixed.extend([
+        // A corner inside; an edge through; all behind one plane; no area.
+        (all, [[5.0, 5.0, 5.0], [50.0, 0.0, 0.0], [0.0, 50.0, 0.0]]),
+        (all, [[-5.0, 5.0, 5.0], [15.0, 5.0, 5.0], [5.0, 5.0, 50.0]]),
+        (all, [[-1.0, 0.0, 0.0], [-1.0, 9.0, 0.0], [-2.0, 0.0, 9.0]]),
+        (all, [[-5.0, 5.0, 5.0], [5.0, -5.0, 5.0], [-5.0, -5.0, 5.0]]),
+        (all, [[11.0, 5.0, 5.0]; 3]),
+        (all, [[-30.0, -30.0, 5.0], [60.0, 60.0, 5.0], [15.0, 15.0, 5.0]]),
+        (all, [[-30.0, -20.0, 5.0], [0.0, 10.1, 5.0], [-30.0, -20.0, 5.0]]),
+        (all, [[NAN, 5.0, 5.0], [5.0, 50.0, 5.0], [50.0, 5.0, 5.0]]),
+        (all, [[10.0, 0.0, 0.0], [20.0, 0.0, 0.0], [20.0, 10.0, 10.0]]),
+        ([0.0; 48], [[1.0, 2.0, 3.0], [4.0, 5.0, 6.0], [7.0, 8.0, 10.0]]),
+        // Behind a plane each.
+        (all, [[-9.0, 5.0, 5.0], [19.0, -40.0, 5.0], [5.0, 50.0, 50.0]]),
+    ]);
+    call!(220 gf_intersects_triangle(volume: 48, p0: 3, p1: 3, p2: 3) -> bool {
+        Ok(planes(volume).intersects_triangle_by(point(p0), point(p1), point(p2), &rays(volume)))
+    })
+    .fixed(fixed.into_iter().map(|(volume, [a, b, c])| (volume, a, b, c)).collect())
+    .drawn(|_, rng| inputs::volume_and_triangle(rng))
+    .timed("frustums", |_, rng| {
+        let (volume, a, b, c, _) = inputs::asked(rng);
+        (volume, a, b, c)
+    })
+    .op()
+}
+
+fn of_box() -> Box<dyn Op> {
+    let turned = |x: f64| {
+        let rows = [[0.0, 1.0, 0.0], [-1.0, 0.0, 0.0], [0.0, 0.0, 1.0]];
+        inputs::placement_of(rows, [x, 0.0, 0.0])
+    };
+    let unplaced = |r: Range| box_of(r, IDENTITY, 0.0);
+    let boxes: [Boxed; 25] = [
+        // The marked verdicts.
+        unplaced([10.0, 0.0, 0.0, 12.0, 1.0, 1.0]),
+        unplaced([11.0, 0.0, 0.0, 12.0, 1.0, 1.0]),
+        unplaced([1.0, 0.0, 0.0, 0.0, 1.0, 1.0]),
+        box_of(UNIT, turned(0.0), 0.0),
+        box_of(UNIT, turned(-1.0), 0.0),
+        // Touching from outside, and just not, on each side.
+        unplaced([-2.0, 0.0, 0.0, 0.0, 1.0, 1.0]),
+        unplaced([-2.0, 0.0, 0.0, -1.0, 1.0, 1.0]),
+        unplaced([0.0, -2.0, 0.0, 1.0, 0.0, 1.0]),
+        unplaced([0.0, 10.0, 0.0, 1.0, 11.0, 1.0]),
+        unplaced([0.0, 0.0, -2.0, 1.0, 1.0, 0.0]),
+        unplaced([0.0, 0.0, 10.0, 1.0, 1.0, 11.0]),
+        unplaced([0.0, 0.0, 10.5, 1.0, 1.0, 11.0]),
+        unplaced([-50.0, -50.0, -50.0, 50.0, 50.0, 50.0]),
+        // Without inverse the range is taken as it stands, and with none of
+        // the translation.
+        box_of(UNIT, with(diagonal([0.0, 1.0, 1.0, 1.0]), &[(12, 50.0)]), 0.0),
+        box_of([20.0, 0.0, 0.0, 21.0, 1.0, 1.0], [0.0; 16], 1.0),
+        box_of(UNIT, [NAN; 16], 1.0),
+        box_of([20.0, 0.0, 0.0, 21.0, 1.0, 1.0], diagonal([1e-13, 1.0, 1.0, 1.0]), 0.0),
+        box_of([20.0, 0.0, 0.0, 21.0, 1.0, 1.0], diagonal([1.1e-13, 1.0, 1.0, 1.0]), 0.0),
+        // An infinite determinant is no reason to leave the matrix out.
+        box_of([-20.0, -1.0, -1.0, -1.0, -1.0, -1.0], diagonal([1e200, 1e200, 1e200, 1.0]), 0.0),
+        box_of([-5.0, -5.0, -5.0, 5.0, 5.0, 5.0], diagonal([1e200, 1e200, 1e200, 1.0]), 0.0),
+        // NaN is not empty.
+        unplaced([NAN, 0.0, 0.0, 1.0, 1.0, 1.0]),
+        unplaced([NAN; 6]),
+        box_of(UNIT, IDENTITY, 0.5),
+        box_of([1.0, 0.0, 0.0, 0.0, 1.0, 1.0], IDENTITY, NAN),
+        box_of(UNIT, IDENTITY, -0.0),
+    ];
+    // Planes of which the normal under the box's matrix is short or long.
+    let scaled = |by: f64| std::array::from_fn(|i| CUBE[i] * by);
+    let placed = box_of([2.0, 0.0, 0.0, 3.0, 1.0, 1.0], diagonal([5.0, 0.5, 0.25, 1.0]), 1.0);
+    let mut more: Vec<(Volume, Boxed)> = [2.0, 1e-11, 1e-5, 1e-200].map(|by| (scaled(by), placed)).into();
+    // NaN is not empty, and no plane here looks at the least x.
+    let upward = with(CUBE, &[(4, 1.0), (7, 0.0)]);
+    more.extend([
+        (upward, unplaced([NAN, 0.0, 0.0, 1.0, 1.0, 1.0])),
+        (upward, unplaced([0.0, 0.0, 0.0, NAN, 1.0, 1.0])),
+    ]);
+    call!(221 gf_intersects_bbox(volume: 48, b: 23) -> bool { Ok(planes(volume).intersects_bbox(&boxed(b)?)) })
+        .fixed(boxes.map(|b| (CUBE, b)).into_iter().chain(more).collect())
+        .drawn(|_, rng| inputs::volume_and_box(rng))
+        .timed("frustums", |_, rng| {
+            let (volume, _, _, _, b) = inputs::asked(rng);
+            (volume, b)
+        })
+        .op()
+}
+
+fn of_view_volume() -> Box<dyn Op> {
+    let perspective: Matrix = gf::ProjectionParams::matrix(
+        &crate::rust::projection(&[0.0, -1.0, 1.0, -1.0, 1.0, 1.0, 10.0]).expect("a kind"),
+    )
+    .0;
+    let unplaced = |r: Range| box_of(r, IDENTITY, 0.0);
+    let moved = |x: f64| box_of(UNIT, with(IDENTITY, &[(14, x)]), 0.0);
+    let fixed: Vec<(Boxed, Matrix)> = vec![
+        // Strict: touching a side is outside.
+        (unplaced(UNIT), IDENTITY),
+        (unplaced([1.0, 0.0, 0.0, 2.0, 1.0, 1.0]), IDENTITY),
+        (unplaced([0.9999999999999999, 0.0, 0.0, 2.0, 1.0, 1.0]), IDENTITY),
+        (unplaced([-2.0, 0.0, 0.0, -1.0, 1.0, 1.0]), IDENTITY),
+        (unplaced([0.0, 1.0, 0.0, 1.0, 2.0, 1.0]), IDENTITY),
+        (unplaced([0.0, -2.0, 0.0, 1.0, -1.0, 1.0]), IDENTITY),
+        (unplaced([0.0, 0.0, 1.0, 1.0, 1.0, 2.0]), IDENTITY),
+        (unplaced([0.0, 0.0, -2.0, 1.0, 1.0, -1.0]), IDENTITY),
+        (unplaced([-5.0, -5.0, -5.0, 5.0, 5.0, 5.0]), IDENTITY),
+        // Emptiness is not asked for.
+        (unplaced([0.5, 0.5, 0.5, -0.5, -0.5, -0.5]), IDENTITY),
+        (unplaced([2.0, 0.0, 0.0, -2.0, 1.0, 1.0]), IDENTITY),
+        (unplaced(inputs::EMPTY), IDENTITY),
+        // The matrix counts even without an inverse.
+        (box_of(UNIT, diagonal([0.0, 1.0, 1.0, 1.0]), 0.0), IDENTITY),
+        (box_of(UNIT, with(diagonal([0.0, 1.0, 1.0, 1.0]), &[(12, 5.0)]), 0.0), IDENTITY),
+        (box_of(UNIT, [0.0; 16], 0.0), IDENTITY),
+        (box_of(UNIT, [NAN; 16], 0.0), IDENTITY),
+        (unplaced(UNIT), [NAN; 16]),
+        (unplaced([NAN, 0.0, 0.0, 0.5, 0.5, 0.5]), IDENTITY),
+        // Before, in and behind a camera.
+        (moved(-5.0), perspective),
+        (moved(5.0), perspective),
+        (moved(-2.0), perspective),
+        (moved(-1.0), perspective),
+        (moved(-10.0), perspective),
+        (moved(-11.0), perspective),
+        (moved(-12.0), perspective),
+        (box_of(UNIT, with(IDENTITY, &[(12, 5.0), (14, -6.0)]), 1.0), perspective),
+        (box_of(UNIT, with(IDENTITY, &[(12, 6.0), (14, -6.0)]), 1.0), perspective),
+        (unplaced([-0.5, -0.5, -0.5, 0.5, 0.5, 0.5]), diagonal([1.0, 1.0, 1.0, -1.0])),
+        (unplaced([-0.5, -0.5, -0.5, 0.5, 0.5, 0.5]), diagonal([1.0, 1.0, 1.0, 0.0])),
+        (box_of(UNIT, IDENTITY, 0.25), IDENTITY),
+        (box_of(UNIT, IDENTITY, NAN), [NAN; 16]),
+        (box_of(UNIT, IDENTITY, -0.0), IDENTITY),
+    ];
+    call!(222 gf_intersects_view_volume(b: 23, m: 16) -> bool {
+        Ok(gf::Frustum::intersects_view_volume(&boxed_without_inverse(b)?, matrix(m)))
+    })
+    .fixed(fixed)
+    .drawn(|_, rng| inputs::box_and_view(rng))
+    .timed("cameras", |_, rng| (inputs::ordinary_box(rng), perspective_view(rng)))
+    .op()
+}
+
+/// From the world into a camera's clip space.
+fn perspective_view(rng: &mut inputs::Rng) -> Matrix {
+    let record = with(inputs::ordinary_projection(rng), &[(0, 0.0)]);
+    let projected = crate::rust::projection(&record).map_or(IDENTITY, |params| params.matrix().0);
+    (matrix(&inputs::placement(rng)) * matrix(&projected)).0
+}
