@@ -26,7 +26,7 @@ use std::process::ExitCode;
 use std::{env, fs, io};
 
 /// Cases for each function where no count is given.
-const COUNT: u64 = 3_000_000;
+const COUNT: u64 = 2_000_000;
 
 fn main() -> ExitCode {
     let words: Vec<String> = env::args().skip(1).collect();
