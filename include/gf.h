@@ -8,7 +8,7 @@
  *
  *   1  an input slice's length differs from its record
  *   2  the output slice's length differs from its record
- *   3  a kind is outside its named values
+ *   3  a kind or a flag is outside its named values; a zero of either sign counts as 0
  *   4  a matrix is singular
  *   5  a miss
  *   6  a matrix is not a projection
@@ -20,7 +20,8 @@
  *
  * Records: a point has 3 numbers, a homogeneous point 4, a range 6 (least corner, greatest corner), a matrix 16, row by
  * row, for row vectors; a plane 4 (normal, distance), a ray 6 (start, direction), a projection 7 (kind 0 perspective or 1
- * orthographic, left, right, bottom, top, near, far).
+ * orthographic, left, right, bottom, top, near, far), a box 23 (range, matrix, zero-area flag 0 or 1), a volume 48: six
+ * planes that face into the view (left, right, bottom, top, near, far), then four rays, along the corners of the view.
  */
 #ifndef GF_H
 #define GF_H
@@ -135,6 +136,42 @@ uint32_t gf_projection_matrix(const double *params, size_t params_len, double *o
 /* The projection of a matrix, 7 numbers. Refuses 1, 2, then 6 where the matrix is none: its six numbers are finite, and the
  * matrix that they build is m within 1e-6. */
 uint32_t gf_projection_from_matrix(const double *m, size_t m_len, double *out, size_t out_len);
+
+/* Boxes: box, a and b have 23 numbers. All refuse 1, then 2 where a slice is lent for the result, then 3 for a flag that is
+ * neither 0, of either sign, nor 1. */
+
+/* A box that holds both, 23 numbers. Its flag is set if either one's is. */
+uint32_t gf_bbox_combine(const double *a, size_t a_len, const double *b, size_t b_len, double *out, size_t out_len);
+
+/* The box under a matrix that is applied after its own, 23 numbers. */
+uint32_t gf_bbox_transform(const double *b, size_t b_len, const double *m, size_t m_len, double *out, size_t out_len);
+
+/* The volume of the placed box, zero for an empty range. */
+uint32_t gf_bbox_volume(const double *b, size_t b_len, double *out);
+
+/* The range, aligned to the axes, that holds the placed box: 6 numbers. */
+uint32_t gf_bbox_aligned_range(const double *b, size_t b_len, double *out, size_t out_len);
+
+/* The center of the placed box, 3 numbers. */
+uint32_t gf_bbox_centroid(const double *b, size_t b_len, double *out, size_t out_len);
+
+/* Verdicts: volume has 48 numbers. All refuse 1, then 3 where a box occurs. Touching a plane counts as in view. */
+
+/* Whether the point is in view. */
+uint32_t gf_intersects_point(const double *volume, size_t volume_len, const double *p, size_t p_len, uint32_t *out);
+
+/* Whether any of the segment from p0 to p1 is in view. */
+uint32_t gf_intersects_segment(const double *volume, size_t volume_len, const double *p0, size_t p0_len, const double *p1, size_t p1_len, uint32_t *out);
+
+/* Whether any of the triangle is in view. */
+uint32_t gf_intersects_triangle(const double *volume, size_t volume_len, const double *p0, size_t p0_len, const double *p1, size_t p1_len, const double *p2, size_t p2_len, uint32_t *out);
+
+/* Whether the box is behind no plane; a box near a corner of the view may count though it is just outside. An empty box is
+ * not in view. A box whose matrix has no inverse is taken as if its matrix were the identity. */
+uint32_t gf_intersects_bbox(const double *volume, size_t volume_len, const double *bbox, size_t bbox_len, uint32_t *out);
+
+/* Whether the box is in the clip volume of a view and projection matrix, by strict comparisons; emptiness is not tested. */
+uint32_t gf_intersects_view_volume(const double *bbox, size_t bbox_len, const double *m, size_t m_len, uint32_t *out);
 
 /* The numbers that the other operations are made of. They refuse nothing. */
 

@@ -1,9 +1,20 @@
 -- The bits of each number that the code of this crate writes out are those of its rounded value, by computation. Assumes nothing.
 use mathlib.Core.Path.{_≡_, refl}
+use Prim.Native.Nat.{_^_}
 use lib.Count.{trailingZeros}
 use lib.Ieee.{binary64, ofBits, round, units, odd, size, span, climb}
+use Rattle.matrix.specs.Constants.{rounded}
+use Rattle.verdict.specs.BBox.{boxEpsilon}
 use Rattle.verdict.specs.Projection.{tolerance}
 
 pub tolerance-bits : ofBits binary64 0x3eb0_c6f7_a0b5_ed8d ≡ tolerance
 unfolding ofBits round units odd size span climb trailingZeros
 tolerance-bits = refl
+
+pub millionth-bits : ofBits binary64 0x3eb0_c6f7_a0b5_ed8d ≡ rounded 1 (10 ^ 6)
+unfolding ofBits round units odd size span climb trailingZeros
+millionth-bits = refl
+
+pub box-epsilon-bits : ofBits binary64 0x3d3c_25c2_6849_7682 ≡ boxEpsilon
+unfolding ofBits round units odd size span climb trailingZeros
+box-epsilon-bits = refl

@@ -1,12 +1,11 @@
 -- What recovery accepts is given back: its last test says so. And the matrices of a family of volumes are accepted, by computation. Assumes nothing.
-use mathlib.Core.Path.{_≡_, refl, sym, subst, _∙_}
-use Prim.Native.Nat.{ℕ, zero, suc, _+_, _^_, _<_}
+use mathlib.Core.Path.{_≡_, refl, sym, subst}
+use Prim.Native.Nat.{ℕ, zero, suc, _^_, _<_}
 use native.Mathlib.Omega.{arith}
 use mathlib.Core.Bool.{Bool, true, false, cond, _&&_}
 use borrow.Author.Tests.{eqb-true, eqb-false}
 use lib.Dec.{eqb}
-use lib.Count.{trailingZeros}
-use lib.Ieee.{Float, add, sub, mul, div, neg, lt, le, isNan, round, sum, units, odd, size, span, climb}
+use lib.Ieee.{add, sub, mul, div, neg, lt, le, isNan}
 use lib.Ieee.Scale.{finite}
 use Rattle.number.specs.Arithmetic.{_⊕_, absOf, maxOf}
 use Rattle.number.specs.Slice.{at}
@@ -16,7 +15,6 @@ use Rattle.matrix.specs.declared.matrix.Mat4d.{Mat4d}
 use Rattle.verdict.specs.declared.projection.Projection.{Projection}
 use Rattle.verdict.specs.declared.projection.Projection.the-variants.{Perspective, Orthographic}
 use Rattle.verdict.specs.declared.projection.ProjectionParams.{ProjectionParams}
-use Rattle.verdict.specs.declared.projection.Recovered.{Recovered}
 use Rattle.verdict.specs.declared.projection.Recovered.the-variants.{Params, NotAProjection}
 use Rattle.verdict.specs.Projection.{tolerance, everyBelow, extent, closeAt, closeTo, bounded, close, projecting, perspectiveOf, orthographicOf, confirmed, recovered}
 use Rattle.verdict.specs.Recovery.{GivesBack, centred, accepted, ThereAndBack}
@@ -79,16 +77,17 @@ abbrev passes : Projection → ℕ → ℕ → ℕ → Bool
 passes kind w h k = accepted (recovered (projecting (centred kind (suc w) (suc h) (2 ^ suc k))))
 
 abbrev all-pass : Projection → Bool
-all-pass kind = everyBelow 4 (λ w. everyBelow 4 (λ h. everyBelow 4 (λ k. passes kind w h k)))
+all-pass kind = everyBelow 2 (λ w. everyBelow 2 (λ h. everyBelow 6 (λ k. passes kind w h k)))
 
 computed : (kind : Projection) → all-pass kind ≡ true
-unfolding recovered confirmed bounded closeTo close everyBelow absOf maxOf add sub mul div neg lt le isNan round sum units odd size span climb trailingZeros
+unfolding recovered confirmed bounded closeTo close everyBelow absOf maxOf add sub mul div neg lt le isNan
 computed Perspective = refl
 computed Orthographic = refl
 
--- either kind, for windows of up to 4 to each side, from 1 to 2, 4, 8 or 16
-pub there-and-back : (kind : Projection) (w h k : ℕ) → w < 4 → h < 4 → k < 4 → ThereAndBack (centred kind (suc w) (suc h) (2 ^ suc k))
+-- either kind, for windows that reach 1 or 2 to each side, from 1 to 2, 4, 8, 16, 32 or 64
+pub there-and-back : (kind : Projection) (w h k : ℕ) → w < 2 → h < 2 → k < 6 → ThereAndBack (centred kind (suc w) (suc h) (2 ^ suc k))
 there-and-back kind w h k i j l =
-    every-at 4 (passes kind w h)
-    (every-at 4 (λ h. everyBelow 4 (λ k. passes kind w h k)) (every-at 4 (λ w. everyBelow 4 (λ h. everyBelow 4 (λ k. passes kind w h k))) (computed kind) w i) h j)
+    every-at 6 (passes kind w h)
+    (every-at 2 (λ h. everyBelow 6 (λ k. passes kind w h k))
+    (every-at 2 (λ w. everyBelow 2 (λ h. everyBelow 6 (λ k. passes kind w h k))) (computed kind) w i) h j)
     k l

@@ -1,7 +1,7 @@
 -- Worked numbers of paper 01 ("Odd inputs", "Slips a rater would miss") on planes, rays and projections, computed from the definitions. Assumes nothing.
 use mathlib.Core.Path.{_≡_, refl, ap}
 use mathlib.Core.Bool.{true, false}
-use mathlib.Core.List.{List, [], _∷_}
+use mathlib.Core.List.{List, _∷_}
 use Prim.Native.Nat.{_^_}
 use lib.Count.{trailingZeros}
 use lib.IntN.{pos, negsuc}
@@ -52,16 +52,16 @@ down x y speed = ray (vec x y one) (vec o o (neg speed))
 
 -- "9e-11 misses, 1e-10 goes on", to a distance of 1e10
 too-flat : planeHit (down o o (rounded 9 (10 ^ 11))) ground ≡ Miss
-unfolding planeHit absOf add sub mul div neg lt le round sum units odd size span climb trailingZeros
+unfolding planeHit absOf add sub mul div neg lt le
 too-flat = refl
 
 steep-enough : planeHit (down o o minLength) ground ≡ At (fin false 9765625 (pos 10)) true
-unfolding planeHit absOf add sub mul div neg lt le round sum units odd size span climb trailingZeros
+unfolding planeHit absOf add sub mul div neg lt le
 steep-enough = refl
 
 -- "Distance zero hits."
 from-the-ground : planeHit (ray (vec o o o) (vec o o (neg one))) ground ≡ At (neg o) true
-unfolding planeHit absOf add sub mul div neg lt le round sum units odd size span climb trailingZeros
+unfolding planeHit absOf add sub mul div neg lt le
 from-the-ground = refl
 
 -- ---- weights and triangles
@@ -87,16 +87,16 @@ fifth = fin false 3602879701896397 (negsuc 53)
 
 -- "Keeping gamma unrounded changes a hit's weights": it is 11744051 / 2 ^ 24, and not 0.7
 rounded-gamma : triangleHit (down tenth fifth one) corner (vec one o o) (vec o one o) ≡ Hit (fin false 1 (pos 0)) (fin false 11744051 (negsuc 23)) tenth fifth true
-unfolding triangleHit planeHit faced weighed betaOf alphaOf gammaOf settled narrowOf normalized lengthOf sqrtOf absOf maxOf isNan add sub mul div neg lt le round sum units odd size span climb trailingZeros
+unfolding triangleHit planeHit faced weighed betaOf alphaOf gammaOf settled narrowOf normalized lengthOf sqrtOf absOf maxOf isNan add sub mul div neg lt le
 rounded-gamma = refl
 
 -- past an edge by 1e-9, and a triangle of no area
 outside : triangleHitNumbers (triangleHit (down (neg (rounded 1 (10 ^ 9))) half one) corner (vec one o o) (vec o one o)) ≡ refused 5
-unfolding triangleHit planeHit faced weighed betaOf alphaOf gammaOf settled narrowOf normalized lengthOf sqrtOf absOf maxOf isNan add sub mul div neg lt le round sum units odd size span climb trailingZeros
+unfolding triangleHit planeHit faced weighed betaOf alphaOf gammaOf settled narrowOf normalized lengthOf sqrtOf absOf maxOf isNan add sub mul div neg lt le
 outside = refl
 
 no-area : triangleHitNumbers (triangleHit (down half o one) corner (vec one o o) (vec (rounded 2 1) o o)) ≡ refused 5
-unfolding triangleHit planeHit faced weighed betaOf alphaOf gammaOf settled narrowOf normalized lengthOf sqrtOf absOf maxOf isNan add sub mul div neg lt le round sum units odd size span climb trailingZeros
+unfolding triangleHit planeHit faced weighed betaOf alphaOf gammaOf settled narrowOf normalized lengthOf sqrtOf absOf maxOf isNan add sub mul div neg lt le
 no-area = refl
 
 -- ---- kinds of projection

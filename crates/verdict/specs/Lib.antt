@@ -4,3 +4,12 @@ pub mod Ray
 pub mod Projection
 pub mod Recovery
 pub mod Calls
+pub mod BBox
+pub mod BBoxCalls
+pub mod Frustum
+pub mod FrustumCalls
+pub mod FarmGrid
+pub mod Combining
+pub mod Turns
+pub mod Marked
+pub mod ViewVolume

@@ -5,7 +5,7 @@ use mathlib.Core.Bool.{Bool, true, cond, _&&_}
 use mathlib.Core.List.{List, [], _∷_}
 use lib.Ieee.{Float, lt, le, eq, neg}
 use lib.Ieee.Scale.{finite}
-use Rattle.number.specs.Answer.{Outcome, refused, result, unless}
+use Rattle.number.specs.Answer.{Outcome, refused, result}
 use Rattle.number.specs.Arithmetic.{_⊕_, _⊖_, _⊗_, _⊘_, absOf, maxOf}
 use Rattle.number.specs.Slice.{at}
 use Rattle.matrix.specs.Constants.{rounded, positiveZero, half, one}

@@ -1,8 +1,8 @@
 -- What is promised of recovery: what it accepts is given back, and a family of volumes whose matrices it accepts. Definitions only.
 use mathlib.Core.Path.{_≡_}
-use Prim.Native.Nat.{ℕ, _<_, _^_}
+use Prim.Native.Nat.{ℕ, _<_}
 use mathlib.Core.Bool.{Bool, true, false}
-use lib.Ieee.{Float, neg}
+use lib.Ieee.{neg}
 use lib.Ieee.Scale.{finite}
 use Rattle.number.specs.Slice.{at}
 use Rattle.matrix.specs.Constants.{rounded, one}

@@ -22,7 +22,8 @@ returns-3 c =
     let second = c .before in
     let first = second .before in
     let tested = first .before in
-    answered _ _ _ _ (both (eq-eqb _ _ (tested .before .if1 .left)) (eq-eqb _ _ (tested .if2 .left)))
+    answered _ _ _ _
+    (both (eq-eqb _ _ (tested .before .if1 .left)) (eq-eqb _ _ (tested .if2 .left)))
     (c .distance .ensures ∙ ap₂ distanceTo (first .load .ensures) (second .load2 .ensures))
 
 pub distance-spec : {M : Type 1} → statement M

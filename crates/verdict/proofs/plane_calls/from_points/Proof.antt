@@ -2,7 +2,6 @@
 use mathlib.Core.Path.{refl, ap, _∙_}
 use borrow.Author.Needs.{needs}
 use borrow.Author.Tests.{eq-eqb, ne-eqb}
-use Rattle.matrix.specs.declared.vec.Vec3d.{Vec3d}
 use Rattle.number.specs.Answer.{write}
 use Rattle.verdict.specs.declared.plane.Plane.{Plane}
 use Rattle.verdict.specs.Plane.{numbers, fromPoints}
@@ -26,7 +25,11 @@ returns-3 c = no-input _ _ _ _ (both (both (eq-eqb _ _ (c .before .before .if1 .
 
 returns-4 : tie.Need-returns-4
 unfolding fromPointsCall
-returns-4 c = no-room _ _ _ _ (both (both (eq-eqb _ _ (c .before .before .before .if1 .left)) (eq-eqb _ _ (c .before .before .if2 .left))) (eq-eqb _ _ (c .before .if3 .left))) (c .if4 .taken)
+returns-4 c =
+    let third = c .before in
+    let second = third .before in
+    let first = second .before in
+    no-room _ _ _ _ (both (both (eq-eqb _ _ (first .if1 .left)) (eq-eqb _ _ (second .if2 .left))) (eq-eqb _ _ (third .if3 .left))) (c .if4 .taken)
 
 same-length : tie.Need-same-length
 same-length c = search needs
@@ -40,8 +43,15 @@ returns-5 c =
     let second = third .before in
     let first = second .before in
     let tested = first .before in
-    written _ 4 _ _ _ _ (both (both (eq-eqb _ _ (tested .before .before .before .if1 .left)) (eq-eqb _ _ (tested .before .before .if2 .left))) (eq-eqb _ _ (tested .before .if3 .left))) (tested .if4 .left) refl (copied .store .ensures)
-    (ap (λ (p : Plane). write (numbers p)) (made .from-points .ensures ∙ same-three fromPoints (first .load .ensures) (second .load2 .ensures) (third .load3 .ensures)))
+    let length3 = tested .before in
+    let length2 = length3 .before in
+    let length1 = length2 .before in
+    written _ 4 _ _ _ _
+    (both (both (eq-eqb _ _ (length1 .if1 .left)) (eq-eqb _ _ (length2 .if2 .left))) (eq-eqb _ _ (length3 .if3 .left)))
+    (tested .if4 .left) refl (copied .store .ensures)
+    (ap (λ (p : Plane). write (numbers p))
+    (made .from-points .ensures ∙ same-three fromPoints (first .load .ensures) (second .load2 .ensures) (third .load3 .ensures)))
 
 pub from-points-spec : {M : Type 1} → statement M
-from-points-spec = tie.close (tie.spec returns returns-2 returns-3 returns-4 (λ c κs. tt) (λ c κs. tt) (λ c κs. tt) (λ c κs. tt) (λ c κs. tt) same-length returns-5)
+from-points-spec =
+    tie.close (tie.spec returns returns-2 returns-3 returns-4 (λ c κs. tt) (λ c κs. tt) (λ c κs. tt) (λ c κs. tt) (λ c κs. tt) same-length returns-5)

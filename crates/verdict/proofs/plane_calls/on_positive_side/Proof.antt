@@ -23,7 +23,8 @@ returns-3 c =
     let second = told .before in
     let first = second .before in
     let tested = first .before in
-    answered _ _ _ _ (both (eq-eqb _ _ (tested .before .if1 .left)) (eq-eqb _ _ (tested .if2 .left)))
+    answered _ _ _ _
+    (both (eq-eqb _ _ (tested .before .if1 .left)) (eq-eqb _ _ (tested .if2 .left)))
     (sym (c .if3 .taken) ∙ told .on-positive-side .ensures ∙ ap₂ onPositiveSide (first .load .ensures) (second .load2 .ensures))
 
 returns-4 : tie.Need-returns-4
@@ -33,7 +34,8 @@ returns-4 c =
     let second = told .before in
     let first = second .before in
     let tested = first .before in
-    answered _ _ _ _ (both (eq-eqb _ _ (tested .before .if1 .left)) (eq-eqb _ _ (tested .if2 .left)))
+    answered _ _ _ _
+    (both (eq-eqb _ _ (tested .before .if1 .left)) (eq-eqb _ _ (tested .if2 .left)))
     (sym (c .if3 .left) ∙ told .on-positive-side .ensures ∙ ap₂ onPositiveSide (first .load .ensures) (second .load2 .ensures))
 
 pub on-positive-side-spec : {M : Type 1} → statement M

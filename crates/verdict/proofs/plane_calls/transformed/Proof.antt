@@ -35,7 +35,9 @@ returns-4 c =
     let first = second .before in
     let tested = first .before in
     same-reply transformedNumbers _ (sym (c .enum-told .given .1) ∙ hit .transformed .ensures ∙ ap₂ transformed (second .load2 .ensures) (first .load .ensures))
-    ∙ left _ 4 _ _ (both (eq-eqb _ _ (tested .before .before .if1 .left)) (eq-eqb _ _ (tested .before .if2 .left))) (tested .if3 .left)
+    ∙ left _ 4 _ _
+    (both (eq-eqb _ _ (tested .before .before .if1 .left)) (eq-eqb _ _ (tested .before .if2 .left)))
+    (tested .if3 .left)
 
 same-length : tie.Need-same-length
 same-length c = search needs
@@ -49,8 +51,13 @@ returns-5 c =
     let second = hit .before in
     let first = second .before in
     let tested = first .before in
-    written _ 4 _ _ _ _ (both (eq-eqb _ _ (tested .before .before .if1 .left)) (eq-eqb _ _ (tested .before .if2 .left))) (tested .if3 .left) refl (copied .store .ensures)
-    (same-reply transformedNumbers _ (sym (opened .moved .given .1) ∙ hit .transformed .ensures ∙ ap₂ transformed (second .load2 .ensures) (first .load .ensures)))
+    written _ 4 _ _ _ _
+    (both (eq-eqb _ _ (tested .before .before .if1 .left)) (eq-eqb _ _ (tested .before .if2 .left)))
+    (tested .if3 .left) refl (copied .store .ensures)
+    (same-reply transformedNumbers _
+    (sym (opened .moved .given .1) ∙ hit .transformed .ensures ∙ ap₂ transformed (second .load2 .ensures) (first .load .ensures)))
 
 pub transformed-spec : {M : Type 1} → statement M
-transformed-spec = tie.close (tie.spec returns returns-2 returns-3 (λ c κs. tt) (λ c κs. tt) (λ c κs. tt) enum-known-moved enum-told returns-4 (λ c κs. tt) same-length returns-5)
+transformed-spec =
+    tie.close
+    (tie.spec returns returns-2 returns-3 (λ c κs. tt) (λ c κs. tt) (λ c κs. tt) enum-known-moved enum-told returns-4 (λ c κs. tt) same-length returns-5)

@@ -10,7 +10,8 @@ use Rattle.verdict.specs.Projection.{close}
 use Rattle.verdict.proofs.projection.close.Statement.{statement}
 use Rattle.verdict.proofs.projection.close.Tie as tie
 
-done : (g b x y m n d : Float) (s t : Bool) → x ≡ absOf g → y ≡ absOf b → m ≡ maxOf x y → n ≡ maxOf m (ofBits binary64 0x3ff0_0000_0000_0000) → d ≡ absOf (g ⊖ b)
+done : (g b x y m n d : Float) (s t : Bool) → x ≡ absOf g → y ≡ absOf b → m ≡ maxOf x y → n ≡ maxOf m (ofBits binary64 0x3ff0_0000_0000_0000)
+    → d ≡ absOf (g ⊖ b)
     → s ≡ finite g → t ≡ finite b → (s && t && le d (ofBits binary64 0x3eb0_c6f7_a0b5_ed8d ⊗ n)) ≡ close g b
 unfolding close
 done g b x y m n d s t h i j k l o p = rw (o, p, l, tolerance-bits, k, one-bits, j, h, i)

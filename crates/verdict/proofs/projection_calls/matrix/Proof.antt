@@ -30,7 +30,8 @@ unfolding projectionCall
 returns-3 c =
     let loaded = c .before .before in
     let tested = loaded .before in
-    same-reply builtNumbers _ (sym (c .enum-told .given .1) ∙ loaded .load .ensures) ∙ left _ 16 _ _ (eq-eqb _ _ (tested .before .if1 .left)) (tested .if2 .left)
+    same-reply builtNumbers _ (sym (c .enum-told .given .1) ∙ loaded .load .ensures) ∙ left _ 16 _ _ (eq-eqb _ _ (tested .before .if1 .left))
+    (tested .if2 .left)
 
 same-length : tie.Need-same-length
 same-length c = search needs

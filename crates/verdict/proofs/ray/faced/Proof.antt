@@ -32,13 +32,15 @@ returns-2 : tie.Need-returns-2
 returns-2 c =
     let tested = c .before .before in
     let third = tested .before in
-    by-y _ _ _ _ (third .before .before .abs .ensures) (third .before .abs2 .ensures) (third .abs3 .ensures) _ (tested .above-both .ensures) (c .before .if1 .left) (c .if2 .taken)
+    by-y _ _ _ _ (third .before .before .abs .ensures) (third .before .abs2 .ensures) (third .abs3 .ensures) _ (tested .above-both .ensures)
+    (c .before .if1 .left) (c .if2 .taken)
 
 returns-3 : tie.Need-returns-3
 returns-3 c =
     let tested = c .before .before in
     let third = tested .before in
-    by-z _ _ _ _ (third .before .before .abs .ensures) (third .before .abs2 .ensures) (third .abs3 .ensures) _ (tested .above-both .ensures) (c .before .if1 .left) (c .if2 .left)
+    by-z _ _ _ _ (third .before .before .abs .ensures) (third .before .abs2 .ensures) (third .abs3 .ensures) _ (tested .above-both .ensures)
+    (c .before .if1 .left) (c .if2 .left)
 
 pub faced-spec : {M : Type 1} → statement M
 faced-spec = tie.close (tie.spec (λ c κs. tt) (λ c κs. tt) (λ c κs. tt) (λ c κs. tt) returns returns-2 returns-3)

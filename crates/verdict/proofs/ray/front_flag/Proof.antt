@@ -1,6 +1,5 @@
 -- `ray::front_flag` meets its contract by its test. Assumes nothing.
-use mathlib.Core.Path.{_≡_, ap, sym, _∙_}
-use mathlib.Core.Bool.{true, false}
+use mathlib.Core.Path.{ap, sym, _∙_}
 use Rattle.matrix.proofs.Literals.{zero-bits, one-bits}
 use Rattle.verdict.specs.Ray.{frontFlag}
 use Rattle.verdict.proofs.ray.front_flag.Statement.{statement}

@@ -1,9 +1,8 @@
 -- `ray::projected` meets its contract by the cases of the axis. Assumes nothing.
-use mathlib.Core.Path.{_≡_, refl, sym, ap}
+use mathlib.Core.Path.{_≡_, sym, ap}
 use borrow.Author.Needs.{needs}
 use Rattle.matrix.specs.declared.vec.Vec3d.{Vec3d}
 use Rattle.verdict.specs.declared.ray.Axis.{Axis}
-use Rattle.verdict.specs.declared.ray.Flat.{Flat}
 use Rattle.verdict.specs.Ray.{projected}
 use Rattle.verdict.proofs.ray.projected.Statement.{statement}
 use Rattle.verdict.proofs.ray.projected.Tie as tie

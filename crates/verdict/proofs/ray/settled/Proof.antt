@@ -2,7 +2,6 @@
 use mathlib.Core.Path.{_≡_}
 use mathlib.Core.Bool.{true, false}
 use lib.Ieee.{Float, binary64, ofBits, lt, neg}
-use Rattle.matrix.specs.Constants.{positiveZero, minLength}
 use Rattle.matrix.proofs.Literals.{zero-bits, min-length-bits}
 use Rattle.verdict.specs.Ray.{settled}
 use Rattle.verdict.proofs.ray.settled.Statement.{statement}

@@ -15,7 +15,8 @@ use Rattle.verdict.proofs.Same.{both}
 use Rattle.verdict.proofs.ray_calls.intersect_plane.Statement.{statement}
 use Rattle.verdict.proofs.ray_calls.intersect_plane.Tie as tie
 
-flagged : (d f : Float) (front : Bool) (k : PlaneHit) (out : List Float) → f ≡ frontFlag front → At d front ≡ k → write (d ∷ f ∷ []) ≡ replied (planeHitNumbers k) out
+flagged : (d f : Float) (front : Bool) (k : PlaneHit) (out : List Float) → f ≡ frontFlag front → At d front ≡ k
+    → write (d ∷ f ∷ []) ≡ replied (planeHitNumbers k) out
 flagged d f front k out h e = ap (λ (x : Float). write (d ∷ x ∷ [])) h ∙ same-reply planeHitNumbers out e
 
 returns : tie.Need-returns
@@ -44,7 +45,9 @@ returns-4 c =
     let first = second .before in
     let tested = first .before in
     same-reply planeHitNumbers _ (sym (c .enum-told .given .1) ∙ hit .intersect-plane .ensures ∙ ap₂ planeHit (first .load .ensures) (second .load2 .ensures))
-    ∙ left _ 2 _ _ (both (eq-eqb _ _ (tested .before .before .if1 .left)) (eq-eqb _ _ (tested .before .if2 .left))) (tested .if3 .left)
+    ∙ left _ 2 _ _
+    (both (eq-eqb _ _ (tested .before .before .if1 .left)) (eq-eqb _ _ (tested .before .if2 .left)))
+    (tested .if3 .left)
 
 slice-aggregate-store : tie.Need-slice-aggregate-store
 slice-aggregate-store c = search needs
@@ -62,9 +65,14 @@ returns-5 c =
     let second = hit .before in
     let first = second .before in
     let tested = first .before in
-    written _ 2 _ _ _ _ (both (eq-eqb _ _ (tested .before .before .if1 .left)) (eq-eqb _ _ (tested .before .if2 .left))) (tested .if3 .left) refl (copied .store .ensures)
+    written _ 2 _ _ _ _
+    (both (eq-eqb _ _ (tested .before .before .if1 .left)) (eq-eqb _ _ (tested .before .if2 .left)))
+    (tested .if3 .left) refl (copied .store .ensures)
     (flagged _ _ _ _ _ (named .front-flag .ensures)
     (sym (opened .distance .given .1) ∙ hit .intersect-plane .ensures ∙ ap₂ planeHit (first .load .ensures) (second .load2 .ensures)))
 
 pub intersect-plane-spec : {M : Type 1} → statement M
-intersect-plane-spec = tie.close (tie.spec returns returns-2 returns-3 (λ c κs. tt) (λ c κs. tt) (λ c κs. tt) enum-known-distance enum-told returns-4 (λ c κs. tt) slice-aggregate-store (λ c κs. tt) same-length returns-5)
+intersect-plane-spec =
+    tie.close
+    (tie.spec returns returns-2 returns-3 (λ c κs. tt) (λ c κs. tt) (λ c κs. tt) enum-known-distance enum-told returns-4 (λ c κs. tt)
+    slice-aggregate-store (λ c κs. tt) same-length returns-5)

@@ -34,15 +34,29 @@ returns-2 c = no-input _ _ _ _ (both (both (both (eq-eqb _ _ (c .before .if1 .le
 
 returns-3 : tie.Need-returns-3
 unfolding triangleHitCall
-returns-3 c = no-input _ _ _ _ (both (both (both (eq-eqb _ _ (c .before .before .if1 .left)) (eq-eqb _ _ (c .before .if2 .left))) (ne-eqb _ _ (c .if3 .taken))) refl)
+returns-3 c =
+    no-input _ _ _ _
+    (both (both (both (eq-eqb _ _ (c .before .before .if1 .left)) (eq-eqb _ _ (c .before .if2 .left))) (ne-eqb _ _ (c .if3 .taken))) refl)
 
 returns-4 : tie.Need-returns-4
 unfolding triangleHitCall
-returns-4 c = no-input _ _ _ _ (both (both (both (eq-eqb _ _ (c .before .before .before .if1 .left)) (eq-eqb _ _ (c .before .before .if2 .left))) (eq-eqb _ _ (c .before .if3 .left))) (ne-eqb _ _ (c .if4 .taken)))
+returns-4 c =
+    let third = c .before in
+    let second = third .before in
+    let first = second .before in
+    no-input _ _ _ _
+    (both (both (both (eq-eqb _ _ (first .if1 .left)) (eq-eqb _ _ (second .if2 .left))) (eq-eqb _ _ (third .if3 .left))) (ne-eqb _ _ (c .if4 .taken)))
 
 returns-5 : tie.Need-returns-5
 unfolding triangleHitCall
-returns-5 c = no-room _ _ _ _ (both (both (both (eq-eqb _ _ (c .before .before .before .before .if1 .left)) (eq-eqb _ _ (c .before .before .before .if2 .left))) (eq-eqb _ _ (c .before .before .if3 .left))) (eq-eqb _ _ (c .before .if4 .left))) (c .if5 .taken)
+returns-5 c =
+    let fourth = c .before in
+    let third = fourth .before in
+    let second = third .before in
+    let first = second .before in
+    no-room _ _ _ _
+    (both (both (both (eq-eqb _ _ (first .if1 .left)) (eq-eqb _ _ (second .if2 .left))) (eq-eqb _ _ (third .if3 .left))) (eq-eqb _ _ (fourth .if4 .left)))
+    (c .if5 .taken)
 
 enum-known-distance : tie.Need-enum-known-distance
 enum-known-distance c = search needs
@@ -68,9 +82,16 @@ returns-6 c =
     let second = third .before in
     let first = second .before in
     let tested = first .before in
-    written _ 5 _ _ _ _ (both (both (both (eq-eqb _ _ (tested .before .before .before .before .if1 .left)) (eq-eqb _ _ (tested .before .before .before .if2 .left))) (eq-eqb _ _ (tested .before .before .if3 .left))) (eq-eqb _ _ (tested .before .if4 .left))) (tested .if5 .left) refl (copied .store .ensures)
+    let length4 = tested .before in
+    let length3 = length4 .before in
+    let length2 = length3 .before in
+    let length1 = length2 .before in
+    written _ 5 _ _ _ _
+    (both (both (both (eq-eqb _ _ (length1 .if1 .left)) (eq-eqb _ _ (length2 .if2 .left))) (eq-eqb _ _ (length3 .if3 .left))) (eq-eqb _ _ (length4 .if4 .left)))
+    (tested .if5 .left) refl (copied .store .ensures)
     (flagged _ _ _ _ _ _ _ _ (named .front-flag .ensures)
-    (sym (opened .distance .given .1) ∙ hit .intersect-triangle .ensures ∙ same-hit (first .load .ensures) (second .load2 .ensures) (third .load3 .ensures) (fourth .load4 .ensures)))
+    (sym (opened .distance .given .1) ∙ hit .intersect-triangle .ensures
+    ∙ same-hit (first .load .ensures) (second .load2 .ensures) (third .load3 .ensures) (fourth .load4 .ensures)))
 
 returns-7 : tie.Need-returns-7
 unfolding triangleHitCall
@@ -82,8 +103,19 @@ returns-7 c =
     let second = third .before in
     let first = second .before in
     let tested = first .before in
-    same-reply triangleHitNumbers _ (sym (opened .refusal .given .1) ∙ hit .intersect-triangle .ensures ∙ same-hit (first .load .ensures) (second .load2 .ensures) (third .load3 .ensures) (fourth .load4 .ensures))
-    ∙ left _ 5 _ _ (both (both (both (eq-eqb _ _ (tested .before .before .before .before .if1 .left)) (eq-eqb _ _ (tested .before .before .before .if2 .left))) (eq-eqb _ _ (tested .before .before .if3 .left))) (eq-eqb _ _ (tested .before .if4 .left))) (tested .if5 .left)
+    let length4 = tested .before in
+    let length3 = length4 .before in
+    let length2 = length3 .before in
+    let length1 = length2 .before in
+    same-reply triangleHitNumbers _
+    (sym (opened .refusal .given .1) ∙ hit .intersect-triangle .ensures
+    ∙ same-hit (first .load .ensures) (second .load2 .ensures) (third .load3 .ensures) (fourth .load4 .ensures))
+    ∙ left _ 5 _ _
+    (both (both (both (eq-eqb _ _ (length1 .if1 .left)) (eq-eqb _ _ (length2 .if2 .left))) (eq-eqb _ _ (length3 .if3 .left))) (eq-eqb _ _ (length4 .if4 .left)))
+    (tested .if5 .left)
 
 pub intersect-triangle-spec : {M : Type 1} → statement M
-intersect-triangle-spec = tie.close (tie.spec returns returns-2 returns-3 returns-4 returns-5 (λ c κs. tt) (λ c κs. tt) (λ c κs. tt) (λ c κs. tt) (λ c κs. tt) enum-known-distance (λ c κs. tt) slice-aggregate-store (λ c κs. tt) enum-known-refusal same-length returns-6 returns-7)
+intersect-triangle-spec =
+    tie.close
+    (tie.spec returns returns-2 returns-3 returns-4 returns-5 (λ c κs. tt) (λ c κs. tt) (λ c κs. tt) (λ c κs. tt) (λ c κs. tt) enum-known-distance
+    (λ c κs. tt) slice-aggregate-store (λ c κs. tt) enum-known-refusal same-length returns-6 returns-7)

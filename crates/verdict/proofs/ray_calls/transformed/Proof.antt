@@ -34,7 +34,9 @@ returns-4 c =
     let second = made .before in
     let first = second .before in
     let tested = first .before in
-    written _ 6 _ _ _ _ (both (eq-eqb _ _ (tested .before .before .if1 .left)) (eq-eqb _ _ (tested .before .if2 .left))) (tested .if3 .left) refl (copied .store .ensures)
+    written _ 6 _ _ _ _
+    (both (eq-eqb _ _ (tested .before .before .if1 .left)) (eq-eqb _ _ (tested .before .if2 .left)))
+    (tested .if3 .left) refl (copied .store .ensures)
     (ap (λ (r : Ray). write (numbers r)) (made .transformed .ensures ∙ ap₂ transformed (second .load2 .ensures) (first .load .ensures)))
 
 pub transformed-spec : {M : Type 1} → statement M

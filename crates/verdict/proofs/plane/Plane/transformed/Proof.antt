@@ -3,11 +3,11 @@ use mathlib.Core.Path.{_≡_}
 use borrow.Author.Needs.{needs}
 use Rattle.matrix.specs.declared.matrix.Mat4d.{Mat4d}
 use Rattle.matrix.specs.declared.inverse.Inverted.{Inverted}
-use Rattle.matrix.specs.declared.inverse.Inverted.the-variants.{Matrix, Singular as NoInverse}
+use Rattle.matrix.specs.declared.inverse.Inverted.the-variants.{Matrix}
 use Rattle.matrix.specs.Matrix.{transpose}
 use Rattle.matrix.specs.Inverse.{inverse}
 use Rattle.verdict.specs.declared.plane.Plane.{Plane}
-use Rattle.verdict.specs.declared.plane.Transformed.the-variants.{To, Singular}
+use Rattle.verdict.specs.declared.plane.Transformed.the-variants.{To}
 use Rattle.verdict.specs.Plane.{underInverseTranspose, carried, transformed}
 use Rattle.verdict.proofs.plane.Plane.transformed.Statement.{statement}
 use Rattle.verdict.proofs.plane.Plane.transformed.Tie as tie

@@ -3,7 +3,6 @@ use mathlib.Core.Path.{_≡_}
 use mathlib.Core.Bool.{Bool, true, false, cond, _&&_}
 use Rattle.matrix.specs.declared.matrix.Mat4d.{Mat4d}
 use Rattle.verdict.specs.declared.projection.ProjectionParams.{ProjectionParams}
-use Rattle.verdict.specs.declared.projection.Recovered.{Recovered}
 use Rattle.verdict.specs.declared.projection.Recovered.the-variants.{Params, NotAProjection}
 use Rattle.verdict.specs.Projection.{bounded, closeTo, projecting, confirmed}
 use Rattle.verdict.proofs.projection.ProjectionParams.confirmed.Statement.{statement}

@@ -1,5 +1,5 @@
 -- `ProjectionParams::from_matrix` meets its contract by its two tests. Assumes nothing.
-use mathlib.Core.Path.{_≡_, ap}
+use mathlib.Core.Path.{_≡_}
 use mathlib.Core.Bool.{true, false}
 use lib.Ieee.{Float, binary64, ofBits, lt}
 use Rattle.number.specs.Arithmetic.{_⊕_, absOf}
@@ -11,7 +11,7 @@ use Rattle.verdict.proofs.Literals.{tolerance-bits}
 use Rattle.verdict.specs.declared.projection.ProjectionParams.{ProjectionParams}
 use Rattle.verdict.specs.declared.projection.Recovered.{Recovered}
 use Rattle.verdict.specs.declared.projection.Recovered.the-variants.{NotAProjection}
-use Rattle.verdict.specs.Projection.{tolerance, perspectiveOf, orthographicOf, confirmed, recovered}
+use Rattle.verdict.specs.Projection.{perspectiveOf, orthographicOf, confirmed, recovered}
 use Rattle.verdict.proofs.projection.ProjectionParams.from_matrix.Statement.{statement}
 use Rattle.verdict.proofs.projection.ProjectionParams.from_matrix.Tie as tie
 
@@ -19,12 +19,14 @@ module _ (m : Mat4d) (a : Float) (h : a ≡ absOf (entry m 2 3 ⊕ ofBits binary
   turned : a ≡ absOf (entry m 2 3 ⊕ one)
   turned = rw one-bits at h
 
-  first : (p : ProjectionParams) (r : Recovered) → lt a (ofBits binary64 0x3eb0_c6f7_a0b5_ed8d) ≡ true → p ≡ perspectiveOf m → r ≡ confirmed p m → r ≡ recovered m
+  first : (p : ProjectionParams) (r : Recovered) → lt a (ofBits binary64 0x3eb0_c6f7_a0b5_ed8d) ≡ true → p ≡ perspectiveOf m → r ≡ confirmed p m
+      → r ≡ recovered m
   unfolding recovered
   first p r t i j = let u = rw (tolerance-bits, turned) at t in rw (j, i, u)
 
   module _ (t : lt a (ofBits binary64 0x3eb0_c6f7_a0b5_ed8d) ≡ false) (b : Float) (k : b ≡ absOf (entry m 2 3)) where
-    second : (p : ProjectionParams) (r : Recovered) → lt b (ofBits binary64 0x3eb0_c6f7_a0b5_ed8d) ≡ true → p ≡ orthographicOf m → r ≡ confirmed p m → r ≡ recovered m
+    second : (p : ProjectionParams) (r : Recovered) → lt b (ofBits binary64 0x3eb0_c6f7_a0b5_ed8d) ≡ true → p ≡ orthographicOf m → r ≡ confirmed p m
+        → r ≡ recovered m
     unfolding recovered
     second p r v i j =
         let u = rw (tolerance-bits, turned) at t in

@@ -25,7 +25,8 @@ module _ (distance : Float) (front : Bool) (d0 d1 d2 : Flat) (beta : Float) (p :
     unfolding weighed
     beyond u = let u' = rw one-bits at u in rw (← p, reached, u')
 
-    module _ (u : le beta (ofBits binary64 0x3ff0_0000_0000_0000) ≡ true) (alpha gamma : Float) (q : alpha ≡ alphaOf d0 d1 d2 beta) (r : gamma ≡ gammaOf alpha beta) where
+    module _ (u : le beta (ofBits binary64 0x3ff0_0000_0000_0000) ≡ true) (alpha gamma : Float) (q : alpha ≡ alphaOf d0 d1 d2 beta)
+        (r : gamma ≡ gammaOf alpha beta) where
       kept : le beta one ≡ true
       kept = rw one-bits at u
 
@@ -60,21 +61,24 @@ returns-3 c =
     let third = c .before in
     let second = third .before in
     let tested = second .before .before in
-    no-alpha _ _ _ _ _ _ (tested .before .beta .ensures) (not-false _ (tested .if1 .left)) (not-false _ (second .before .if2 .left)) _ _ (second .alpha .ensures) (third .gamma .ensures) (c .if3 .taken)
+    no-alpha _ _ _ _ _ _ (tested .before .beta .ensures) (not-false _ (tested .if1 .left)) (not-false _ (second .before .if2 .left)) _ _
+    (second .alpha .ensures) (third .gamma .ensures) (c .if3 .taken)
 
 returns-4 : tie.Need-returns-4
 returns-4 c =
     let third = c .before .before in
     let second = third .before in
     let tested = second .before .before in
-    no-gamma _ _ _ _ _ _ (tested .before .beta .ensures) (not-false _ (tested .if1 .left)) (not-false _ (second .before .if2 .left)) _ _ (second .alpha .ensures) (third .gamma .ensures) (c .before .if3 .left) (c .if4 .taken)
+    no-gamma _ _ _ _ _ _ (tested .before .beta .ensures) (not-false _ (tested .if1 .left)) (not-false _ (second .before .if2 .left)) _ _
+    (second .alpha .ensures) (third .gamma .ensures) (c .before .if3 .left) (c .if4 .taken)
 
 returns-5 : tie.Need-returns-5
 returns-5 c =
     let third = c .before .before in
     let second = third .before in
     let tested = second .before .before in
-    hit _ _ _ _ _ _ (tested .before .beta .ensures) (not-false _ (tested .if1 .left)) (not-false _ (second .before .if2 .left)) _ _ (second .alpha .ensures) (third .gamma .ensures) (c .before .if3 .left) (c .if4 .left)
+    hit _ _ _ _ _ _ (tested .before .beta .ensures) (not-false _ (tested .if1 .left)) (not-false _ (second .before .if2 .left)) _ _
+    (second .alpha .ensures) (third .gamma .ensures) (c .before .if3 .left) (c .if4 .left)
 
 pub weighed-spec : {M : Type 1} → statement M
 weighed-spec = tie.close (tie.spec (λ c κs. tt) returns returns-2 (λ c κs. tt) (λ c κs. tt) returns-3 returns-4 returns-5)

@@ -5,7 +5,6 @@ use lib.Ieee.{Float, binary64, ofBits, lt, le}
 use Rattle.number.specs.Arithmetic.{_⊘_, absOf}
 use Rattle.matrix.specs.declared.vec.Vec3d.{Vec3d}
 use Rattle.matrix.specs.Vec.{dot, difference, multiple}
-use Rattle.matrix.specs.Constants.{positiveZero, minLength}
 use Rattle.matrix.proofs.Literals.{zero-bits, min-length-bits}
 use Rattle.verdict.specs.declared.plane.Plane.{Plane}
 use Rattle.verdict.specs.declared.ray.Ray.{Ray}
@@ -47,7 +46,8 @@ returns-2 c =
     let moved = dotted .before in
     let scaled = moved .before in
     let tested = scaled .before in
-    ahead _ _ _ _ (tested .before .before .dot .ensures) (tested .before .abs .ensures) _ _ _ (scaled .scale .ensures) (moved .sub .ensures) (dotted .dot2 .ensures)
+    ahead _ _ _ _ (tested .before .before .dot .ensures) (tested .before .abs .ensures) _ _ _ (scaled .scale .ensures) (moved .sub .ensures)
+    (dotted .dot2 .ensures)
     (tested .if1 .left) (c .if2 .taken)
 
 returns-3 : tie.Need-returns-3
@@ -56,7 +56,8 @@ returns-3 c =
     let moved = dotted .before in
     let scaled = moved .before in
     let tested = scaled .before in
-    behind _ _ _ _ (tested .before .before .dot .ensures) (tested .before .abs .ensures) _ _ _ (scaled .scale .ensures) (moved .sub .ensures) (dotted .dot2 .ensures)
+    behind _ _ _ _ (tested .before .before .dot .ensures) (tested .before .abs .ensures) _ _ _ (scaled .scale .ensures) (moved .sub .ensures)
+    (dotted .dot2 .ensures)
     (tested .if1 .left) (c .if2 .left)
 
 pub intersect-plane-spec : {M : Type 1} → statement M

@@ -1,0 +1,10 @@
+-- `gf_intersects_bbox` meets its contract by its operation's. Assumes nothing.
+use Rattle.gf.proofs.Answers.{with-verdict}
+use Rattle.gf.proofs.frustum_calls.gf_intersects_bbox.Statement.{statement}
+use Rattle.gf.proofs.frustum_calls.gf_intersects_bbox.Tie as tie
+
+returns : tie.Need-returns
+returns c = with-verdict _ _ _ _ (c .put .ensures) (c .before .before .intersects-bbox .ensures)
+
+pub gf-intersects-bbox-spec : {M : Type 1} → statement M
+gf-intersects-bbox-spec = tie.close (tie.spec (λ c κs. tt) (λ c κs. tt) returns)

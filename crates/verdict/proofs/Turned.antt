@@ -1,0 +1,74 @@
+-- Point and segment verdicts are the same after a turn of planes and points alike.
+-- The idea: normal' · point' − (distance + normal' · translation) = normal · point − distance, since a quarter turn keeps dot products;
+-- and exact verdicts depend on these distances alone.
+use mathlib.Core.Path.{_≡_}
+use mathlib.Core.Logic.{_↔_, Iff·trans, Iff·symm}
+use mathlib.Core.List.{List, [], _∷_, map}
+use Prim.Native.Nat.{ℕ}
+use native.Mathlib.Omega.{arith}
+use lib.IntN.{ℤ, _+ℤ_, _-ℤ_}
+use Rattle.number.proofs.Integer.{of-self, of-sum, of-minus, of-eq}
+use Rattle.matrix.specs.declared.vec.Vec3d.{Vec3d}
+use Rattle.matrix.specs.Placement.{dotℤ, turnedℤ, movedℤ, QuarterTurn}
+use Rattle.verdict.specs.declared.plane.Plane.{Plane}
+use Rattle.verdict.specs.Frustum.{pointOf, segmentOf}
+use Rattle.verdict.specs.FarmGrid.{WholePlane, SegmentPlane, IsPoint, ArePlanes, exactly, Satisfies, Every, InView, SegmentInView, movedPlane}
+use Rattle.verdict.proofs.Dot.{dot-sum}
+use Rattle.verdict.proofs.TurnedDot.{keeps-dot}
+use Rattle.verdict.proofs.Distance.{gap, same-test}
+use Rattle.verdict.proofs.Span.{Keeps, place-map}
+use Rattle.verdict.proofs.ExactPoints.{point-gap, Kept, segment-place}
+use Rattle.verdict.proofs.Segment.{point-exact, segment-exact}
+
+-- a condition on the moved planes is one on the planes
+module _ (K L : WholePlane → Type 0) (f : WholePlane → WholePlane) (h : (P : WholePlane) → K (f P) ↔ L P) where
+  every-moved : (Ps : List WholePlane) → Every K (map f Ps) ↔ Every L Ps
+  every-moved [] = (λ t. t, λ t. t)
+  every-moved (P ∷ Ps) =
+      let rs = every-moved Ps in
+      (λ t. (h P .0 (t .0), rs .0 (t .1)), λ t. (h P .1 (t .0), rs .1 (t .1)))
+
+module _ {f : ℕ → ℕ → ℤ} (F : QuarterTurn f) where
+  -- the distance of a plane from a point stays
+  pub gap-moved : (P : WholePlane) (A : ℕ → ℤ) → gap (movedPlane f P) (movedℤ f A) ≡ gap P A
+  gap-moved P A =
+      let n = turnedℤ f (P .normal) in
+      rw (dot-sum n (turnedℤ f A) (f 3), keeps-dot F (P .normal) A) (shift (dotℤ (P .normal) A) (P .distance) (dotℤ n (f 3)))
+    where
+      shift : (x d s : ℤ) → x +ℤ s -ℤ (d +ℤ s) ≡ x -ℤ d
+      shift x d s =
+          let X = of-self x in
+          let D = of-self d in
+          let S = of-self s in
+          of-eq (of-minus (of-sum X S) (of-sum D S)) (of-minus X D) (omega arith)
+
+  module _ (Ps : List WholePlane) (A : ℕ → ℤ) where
+    pub point-in-view : InView (map (movedPlane f) Ps) (exactly (movedℤ f A)) ↔ InView Ps (exactly A)
+    point-in-view = every-moved (λ P. Satisfies P (exactly (movedℤ f A))) (λ P. Satisfies P (exactly A)) (movedPlane f)
+        (λ P. Iff·trans (point-gap (movedPlane f P) (movedℤ f A)) (rw (gap-moved P A) (Iff·symm (point-gap P A)))) Ps
+
+    module _ (B : ℕ → ℤ) where
+      abbrev Before : ℕ → ℕ → Type 0
+      Before = Kept Ps A B
+
+      abbrev After : ℕ → ℕ → Type 0
+      After = Kept (map (movedPlane f) Ps) (movedℤ f A) (movedℤ f B)
+
+      kept-moved : (u m : ℕ) → After u m ↔ Before u m
+      kept-moved u m = every-moved (λ P. Keeps (gap P (movedℤ f A)) (gap P (movedℤ f B)) u m) (λ P. Keeps (gap P A) (gap P B) u m) (movedPlane f)
+          (λ P. rw (gap-moved P A, gap-moved P B) (λ k. k, λ k. k)) Ps
+
+      pub segment-in-view : SegmentInView (map (movedPlane f) Ps) (movedℤ f A) (movedℤ f B) ↔ SegmentInView Ps A B
+      segment-in-view = Iff·trans (segment-place (map (movedPlane f) Ps) (movedℤ f A) (movedℤ f B))
+          (Iff·trans (place-map (λ u m. kept-moved u m .0), place-map (λ u m. kept-moved u m .1)) (Iff·symm (segment-place Ps A B)))
+
+  -- ---- and the verdicts: floats ps, a and b of the grid, and floats ps', a' and b' that are the moved ones and on the grid again
+  module _ {ps ps' : List Plane} {Ps : List WholePlane} (hs : ArePlanes SegmentPlane ps Ps) (hs' : ArePlanes SegmentPlane ps' (map (movedPlane f) Ps))
+      {a a' : Vec3d} {A : ℕ → ℤ} (g : IsPoint a A) (g' : IsPoint a' (movedℤ f A)) where
+    pub point-turned : pointOf ps' a' ≡ pointOf ps a
+    point-turned = same-test (pointOf ps' a') (pointOf ps a)
+        (Iff·trans (point-exact ps' a' .exact hs' g') (Iff·trans (point-in-view Ps A) (Iff·symm (point-exact ps a .exact hs g))))
+
+    pub segment-turned : {b b' : Vec3d} {B : ℕ → ℤ} → IsPoint b B → IsPoint b' (movedℤ f B) → segmentOf ps' a' b' ≡ segmentOf ps a b
+    segment-turned {b} {b'} {B} k k' = same-test (segmentOf ps' a' b') (segmentOf ps a b)
+        (Iff·trans (segment-exact ps' a' b' .exact hs' g' k') (Iff·trans (segment-in-view Ps A B) (Iff·symm (segment-exact ps a b .exact hs g k))))

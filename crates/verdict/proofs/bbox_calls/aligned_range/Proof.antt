@@ -1,0 +1,59 @@
+-- `bbox_calls::aligned_range` meets its contract: the lengths and the flag by its tests, the result by what it calls. Assumes nothing.
+use mathlib.Core.Path.{_≡_, refl, ap, _∙_}
+use mathlib.Core.Bool.{Bool, true, false}
+use mathlib.Core.List.{List}
+use borrow.Author.Needs.{needs}
+use lib.Ieee.{Float}
+use lib.ListN.{length}
+use Rattle.number.specs.Answer.{refuse, write, unless, has, leaving}
+use Rattle.number.proofs.Calls.{no-input, no-room, left, written}
+use Rattle.number.proofs.Refusals.{stops, passes}
+use Rattle.matrix.specs.Range.{bounds}
+use Rattle.verdict.specs.BBox.{boxOf, alignedRange}
+use Rattle.verdict.specs.BBoxCalls.{flagged, alignedRangeCall}
+use Rattle.verdict.proofs.Flags.{no-flag, is-flag}
+use Rattle.verdict.proofs.bbox_calls.aligned_range.Statement.{statement}
+use Rattle.verdict.proofs.bbox_calls.aligned_range.Tie as tie
+
+is : (a out : List Float) → alignedRangeCall a out ≡ leaving (has 23 a) 6 (unless (flagged a) (refuse 3 out) (write (bounds (alignedRange (boxOf a))))) out
+unfolding alignedRangeCall
+is a out = refl
+
+no-flag-left : (a out : List Float) → length a ≡ 23 → length out ≡ 6 → flagged a ≡ false → refuse 3 out ≡ alignedRangeCall a out
+no-flag-left a out h l e = stops (flagged a) (refuse 3 out) _ e ∙ left 23 6 _ _ is a out h l
+
+flag-passed : (a out : List Float) → flagged a ≡ true → write (bounds (alignedRange (boxOf a))) ≡ unless (flagged a) (refuse 3 out) (write (bounds (alignedRange (boxOf a))))
+flag-passed a out e = passes (flagged a) (refuse 3 out) _ _ e refl
+
+returns : tie.Need-returns
+returns c = no-input 23 6 _ _ is _ _ (c .if1 .taken)
+
+returns-2 : tie.Need-returns-2
+returns-2 c = no-room 23 6 _ _ is _ _ (c .before .if1 .left) (c .if2 .taken)
+
+returns-3 : tie.Need-returns-3
+returns-3 c =
+    let f = c .before in
+    let tests = f .before .before in
+    let b = tests .before .before .before .before .args .b .now in
+    no-flag-left b _ (tests .before .if1 .left) (tests .if2 .left) (no-flag b _ _ (f .before .at .ensures) (f .is-flag .ensures) (c .if3 .taken))
+
+same-length : tie.Need-same-length
+same-length c = search needs
+
+returns-4 : tie.Need-returns-4
+returns-4 c =
+    let s = c .before .before in
+    let r = s .before .before in
+    let l = r .before in
+    let e = l .before in
+    let f = e .before in
+    let tests = f .before .before in
+    let a = tests .before .before .before .before .args in
+    written 23 6 _ _ is (a .b .now) (a .out .now) _ _ _ (tests .before .if1 .left) (tests .if2 .left) (s .store .ensures) refl
+    (ap bounds (r .aligned-range .ensures ∙ ap alignedRange (l .load .ensures)))
+    (flag-passed (a .b .now) (a .out .now) (is-flag (a .b .now) _ _ (f .before .at .ensures) (f .is-flag .ensures) (e .if3 .left)))
+
+pub aligned-range-spec : {M : Type 1} → statement M
+aligned-range-spec =
+    tie.close (tie.spec returns returns-2 (λ c κs. tt) (λ c κs. tt) returns-3 (λ c κs. tt) (λ c κs. tt) (λ c κs. tt) same-length returns-4)

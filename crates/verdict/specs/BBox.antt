@@ -1,0 +1,105 @@
+-- Boxes in a space of their own, placed by a matrix, as Gf's documentation has them. Definitions only.
+use Prim.Native.Nat.{ℕ, _+_, _*_, _^_}
+use mathlib.Core.Bool.{Bool, true, false, cond, _||_}
+use mathlib.Core.List.{List, [], _∷_, _++_}
+use lib.Ieee.{Float, lt, le, eq}
+use Rattle.number.specs.Arithmetic.{_⊖_, _⊗_, absOf, maxOf}
+use Rattle.number.specs.Slice.{at}
+use Rattle.matrix.specs.Constants.{rounded, positiveZero, one}
+use Rattle.matrix.specs.Vec.{vec3}
+use Rattle.matrix.specs.Matrix.{entries, matrix, identity, product, determinant3}
+use Rattle.matrix.specs.Inverse.{inverseAbove}
+use Rattle.matrix.specs.Transform.{transformed as transformedPoint}
+use Rattle.matrix.specs.Range.{range, rangeOf, bounds, isEmpty, union, size, midpoint, transformed}
+use Rattle.matrix.specs.declared.vec.Vec3d.{Vec3d}
+use Rattle.matrix.specs.declared.matrix.Mat4d.{Mat4d}
+use Rattle.matrix.specs.declared.range.Range3d.{Range3d}
+use Rattle.matrix.specs.declared.inverse.Inverted.{Inverted}
+use Rattle.matrix.specs.declared.inverse.Inverted.the-variants.{Matrix, Singular}
+use Rattle.verdict.specs.declared.bbox.BBox3d.{BBox3d}
+
+-- ---- its numbers, "Box 23: range, matrix, zero-area flag 0 or 1"
+
+abbrev pub flagOf : Bool → Float
+flagOf b = cond b one positiveZero
+
+abbrev pub numbers : BBox3d → List Float
+numbers b = bounds (b .range) ++ entries (b .matrix) ++ flagOf (b .flag) ∷ []
+
+abbrev pub box : Range3d → Mat4d → Bool → BBox3d
+box r m f = record { range = r; matrix = m; flag = f }
+
+abbrev pub boxOf : List Float → BBox3d
+boxOf s = box (rangeOf s) (matrix (λ i j. at s (6 + i * 4 + j))) (eq (at s 22) one)
+
+-- "3 means a kind or flag outside its named values; a zero of either sign counts as 0"
+abbrev pub isFlag : Float → Bool
+isFlag x = eq x positiveZero || eq x one
+
+-- ---- the inverse "follows from its matrix"
+
+-- "1e-13 for boxes"
+abbrev pub boxEpsilon : Float
+boxEpsilon = rounded 1 (10 ^ 13)
+
+abbrev pub intoBox : BBox3d → Inverted
+intoBox b = inverseAbove boxEpsilon (b .matrix)
+
+-- ---- in the world
+
+-- "The axis-aligned range holding the box in world space"
+abbrev pub alignedRange : BBox3d → Range3d
+alignedRange b = transformed (b .range) (b .matrix)
+
+abbrev pub centroid : BBox3d → Vec3d
+centroid b = transformedPoint (b .matrix) (midpoint (b .range))
+
+-- zero for an empty range
+unfoldable pub volume : BBox3d → Float
+volume b =
+    let s = size (b .range) in
+    cond (isEmpty (b .range)) positiveZero (absOf (determinant3 (b .matrix) ⊗ s .x ⊗ s .y ⊗ s .z))
+
+-- "Apply matrix after the box's own"
+abbrev pub placed : BBox3d → Mat4d → BBox3d
+placed b m = box (b .range) (product (b .matrix) m) (b .flag)
+
+-- ---- combining
+
+-- the box a, grown to hold b, which is projected into a's space by the inverse of a's matrix
+unfoldable pub extended : BBox3d → BBox3d → Mat4d → BBox3d
+extended a b inverse = box (union (a .range) (transformed (b .range) (product (b .matrix) inverse))) (a .matrix) (a .flag)
+
+-- volumes this close count as equal
+abbrev pub tolerance : Float → Float → Float
+tolerance v w = maxOf (rounded 1 (10 ^ 6) ⊗ absOf (maxOf v w)) (rounded 1 (10 ^ 10))
+
+-- "`combine` takes the first candidate if it is within the volume tolerance or smaller."
+abbrev pub preferred : Float → Float → Bool
+preferred v w = le (absOf (v ⊖ w)) (tolerance v w) || lt v w
+
+unfoldable pub smaller : BBox3d → BBox3d → BBox3d
+unfolding volume
+smaller a b = cond (preferred (volume a) (volume b)) a b
+
+abbrev pub aligned : BBox3d → BBox3d → BBox3d
+aligned a b = box (union (alignedRange a) (alignedRange b)) identity false
+
+-- Of two ranges that are not empty, by the inverses of their boxes' matrices: one is projected into the other's space, both ways round. A box whose matrix has
+-- no inverse is always the one projected, and two such boxes merge as their aligned ranges.
+unfoldable pub merged : BBox3d → BBox3d → Inverted → Inverted → BBox3d
+unfolding extended smaller
+merged a b Singular Singular = aligned a b
+merged a b Singular (Matrix n) = extended b a n
+merged a b (Matrix m) Singular = extended a b m
+merged a b (Matrix m) (Matrix n) = smaller (extended a b m) (extended b a n)
+
+-- an empty box yields the other
+unfoldable pub held : BBox3d → BBox3d → BBox3d
+unfolding merged
+held a b = cond (isEmpty (a .range)) b (cond (isEmpty (b .range)) a (merged a b (intoBox a) (intoBox b)))
+
+-- "The flag is set if either input's is, even where one range is empty."
+unfoldable pub combined : BBox3d → BBox3d → BBox3d
+unfolding held
+combined a b = box (held a b .range) (held a b .matrix) (a .flag || b .flag)

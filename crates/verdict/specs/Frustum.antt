@@ -1,0 +1,181 @@
+-- The verdicts of a view, in the operation order of frustum.rs. A view is a list of planes that face into it: six of them in gf,
+-- any number here. Definitions only.
+use Prim.Native.Nat.{ℕ, zero, suc, _+_, _*_}
+use mathlib.Core.Bool.{Bool, true, false, not, cond, _&&_, _||_, Bool·beq}
+use mathlib.Core.List.{List, [], _∷_}
+use lib.Ieee.{Float, lt, neg}
+use Rattle.number.specs.Arithmetic.{_⊘_, minOf, maxOf}
+use Rattle.number.specs.Slice.{at}
+use Rattle.matrix.specs.Constants.{positiveZero, one}
+use Rattle.matrix.specs.Vec.{vec3, axis4, dot, difference}
+use Rattle.matrix.specs.Matrix.{identity, transpose, product}
+use Rattle.matrix.specs.Transform.{homogeneous}
+use Rattle.matrix.specs.Range.{isEmpty, corner}
+use Rattle.matrix.specs.declared.vec.Vec3d.{Vec3d}
+use Rattle.matrix.specs.declared.vec.Vec4d.{Vec4d}
+use Rattle.matrix.specs.declared.matrix.Mat4d.{Mat4d}
+use Rattle.matrix.specs.declared.inverse.Inverted.{Inverted}
+use Rattle.matrix.specs.declared.inverse.Inverted.the-variants.{Matrix, Singular}
+use Rattle.verdict.specs.declared.plane.Plane.{Plane}
+use Rattle.verdict.specs.declared.bbox.BBox3d.{BBox3d}
+use Rattle.verdict.specs.declared.frustum.Span.{Span}
+use Rattle.verdict.specs.declared.ray.Ray.{Ray}
+use Rattle.verdict.specs.declared.ray.TriangleHit.{TriangleHit}
+use Rattle.verdict.specs.declared.ray.TriangleHit.the-variants.{Hit, Refused}
+use Rattle.verdict.specs.Plane.{plane, distanceTo, onPositiveSide, reachesPositiveSide, underInverseTranspose}
+use Rattle.verdict.specs.Ray.{ray, triangleHit}
+use Rattle.verdict.specs.Projection.{everyBelow}
+use Rattle.verdict.specs.BBox.{intoBox}
+
+-- every plane of the view passes the test
+unfoldable pub every : (Plane → Bool) → List Plane → Bool
+every test [] = true
+every test (p ∷ ps) = test p && every test ps
+
+-- ---- a point: every plane has it on its positive side
+
+unfoldable pub pointOf : List Plane → Vec3d → Bool
+unfolding every
+pointOf ps x = every (λ p. onPositiveSide p x) ps
+
+-- ---- a segment, from its end a to its end b
+
+-- one end at least is on the plane's positive side
+abbrev pub hasEnd : Vec3d → Vec3d → Plane → Bool
+hasEnd a b p = onPositiveSide p a || onPositiveSide p b
+
+-- where the segment meets the plane, as a number that is 0 at a and 1 at b
+abbrev pub crossing : Plane → Vec3d → Vec3d → Float
+crossing p a b = neg (distanceTo p a) ⊘ dot (p .normal) (difference b a)
+
+-- A plane that has one end alone on its positive side cuts the span from a start to an end at the crossing: where that end is b, the
+-- start moves there, and where it is a, the end does.
+abbrev pub startCut : Bool → Bool → Float → Float → Float
+startCut inA inB start at = cond (not inA && inB) (maxOf start at) start
+
+abbrev pub endCut : Bool → Bool → Float → Float → Float
+endCut inA inB end at = cond (inA && not inB) (minOf end at) end
+
+-- Plane by plane, those that have both ends on one side passed over, the start does not come to lie past the end.
+unfoldable pub spanLeft : List Plane → Vec3d → Vec3d → Float → Float → Bool
+spanLeft [] a b start end = true
+spanLeft (p ∷ ps) a b start end =
+    let inA = onPositiveSide p a in
+    let inB = onPositiveSide p b in
+    let at = crossing p a b in
+    let start' = startCut inA inB start at in
+    let end' = endCut inA inB end at in
+    (Bool·beq inA inB || not (lt end' start')) && spanLeft ps a b start' end'
+
+-- Not both ends are behind one plane; and then an end is inside every plane, or the planes leave some of the span from 0 to 1.
+unfoldable pub segmentOf : List Plane → Vec3d → Vec3d → Bool
+unfolding every pointOf spanLeft
+segmentOf ps a b = every (hasEnd a b) ps && (pointOf ps a || pointOf ps b || spanLeft ps a b positiveZero one)
+
+-- What the planes passed leave of the segment, past one plane more: it has a, b or both of them on its positive side.
+abbrev pub passed : Bool → Bool → Float → Span → Span
+passed true true at s = s
+passed true false at s =
+    let end = minOf (s .end) at in
+    record { first = s .first; second = false; left = s .left && not (lt end (s .start)); start = s .start; end = end }
+passed false inB at s =
+    let start = maxOf (s .start) at in
+    record { first = false; second = s .second; left = s .left && not (lt (s .end) start); start = start; end = s .end }
+
+-- ---- a box: every plane, brought into the box's own space, is reached by its range
+
+-- The box's matrix is the inverse of the one into its space, and its transpose carries a plane there.
+-- "The plane tests take a degenerate box as if its matrix were the identity."
+abbrev pub intoSpace : Mat4d → Inverted → Mat4d
+intoSpace m Singular = identity
+intoSpace m (Matrix n) = transpose m
+
+abbrev pub intoSpaceOf : BBox3d → Mat4d
+intoSpaceOf b = intoSpace (b .matrix) (intoBox b)
+
+-- An empty box is not in view.
+unfoldable pub boxOf : List Plane → BBox3d → Bool
+unfolding every
+boxOf ps b = not (isEmpty (b .range)) && every (λ p. reachesPositiveSide (underInverseTranspose (intoSpaceOf b) p) (b .range)) ps
+
+-- ---- the volume record: "six planes in the order of `planes`, then four rays"
+
+abbrev pub planeCount : ℕ
+planeCount = 6
+
+abbrev pub planeAt : List Float → ℕ → Plane
+planeAt s i = plane (vec3 (λ j. at s (i * 4 + j))) (at s (i * 4 + 3))
+
+-- n planes of a record, from plane i on
+unfoldable pub planesFrom : List Float → ℕ → ℕ → List Plane
+planesFrom s i zero = []
+planesFrom s i (suc n) = planeAt s i ∷ planesFrom s (suc i) n
+
+abbrev pub planesOf : List Float → List Plane
+planesOf s = planesFrom s 0 planeCount
+
+-- the near plane and the far plane
+abbrev pub nearAndFar : List Float → List Plane
+nearAndFar s = planesFrom s 4 2
+
+abbrev pub rayAt : List Float → ℕ → Ray
+rayAt s i = ray (vec3 (λ j. at s (24 + i * 6 + j))) (vec3 (λ j. at s (27 + i * 6 + j)))
+
+-- n rays of a record, from ray i on
+unfoldable pub raysFrom : List Float → ℕ → ℕ → List Ray
+raysFrom s i zero = []
+raysFrom s i (suc n) = rayAt s i ∷ raysFrom s (suc i) n
+
+-- ---- a triangle of three points
+
+-- one of them at least is on the plane's positive side
+abbrev pub hasCorner : Vec3d → Vec3d → Vec3d → Plane → Bool
+hasCorner a b c p = onPositiveSide p a || onPositiveSide p b || onPositiveSide p c
+
+-- all of them are
+abbrev pub hasCorners : Vec3d → Vec3d → Vec3d → Plane → Bool
+hasCorners a b c p = onPositiveSide p a && onPositiveSide p b && onPositiveSide p c
+
+abbrev pub isHit : TriangleHit → Bool
+isHit (Hit d g a b front) = true
+isHit (Refused r) = false
+
+-- some ray meets the triangle
+unfoldable pub someHit : List Ray → Vec3d → Vec3d → Vec3d → Bool
+someHit [] a b c = false
+someHit (r ∷ rs) a b c = isHit (triangleHit r a b c) || someHit rs a b c
+
+-- how many of the lines of sight along the view's corners are tried: one settles it for a triangle between the near and the far plane
+abbrev pub sightLines : List Float → Vec3d → Vec3d → Vec3d → ℕ
+sightLines s a b c = cond (every (hasCorners a b c) (nearAndFar s)) 1 4
+
+-- Not all are behind one plane; and then a corner is inside, or some of a side is, or the triangle surrounds the view, so that a line of sight meets it.
+unfoldable pub triangleOf : List Float → Vec3d → Vec3d → Vec3d → Bool
+unfolding every pointOf segmentOf someHit planesFrom raysFrom
+triangleOf s a b c =
+    let ps = planesOf s in
+    every (hasCorner a b c) ps
+    && (pointOf ps a || pointOf ps b || pointOf ps c
+    || segmentOf ps a b || segmentOf ps b c || segmentOf ps c a
+    || someHit (raysFrom s 0 (sightLines s a b c)) a b c)
+
+-- ---- a box in clip space
+
+-- some test below n holds
+unfoldable pub someBelow : ℕ → (ℕ → Bool) → Bool
+someBelow zero t = false
+someBelow (suc n) t = someBelow n t || t n
+
+-- corner k of the box's range, through its matrix and a view's projection
+abbrev pub clipCorner : BBox3d → Mat4d → ℕ → Vec4d
+clipCorner b m k =
+    let c = corner (b .range) k in
+    homogeneous (product (b .matrix) m) (record { x = c .x; y = c .y; z = c .z; w = one })
+
+-- Along each axis some corner is inside each of two bounds, w and its negation: "`intersects_view_volume` uses strict comparisons".
+unfoldable pub viewVolumeOf : BBox3d → Mat4d → Bool
+unfolding someBelow everyBelow
+viewVolumeOf b m =
+    everyBelow 3 (λ i.
+    someBelow 8 (λ k. lt (axis4 (clipCorner b m k) i) (clipCorner b m k .w))
+    && someBelow 8 (λ k. lt (neg (clipCorner b m k .w)) (axis4 (clipCorner b m k) i)))

@@ -1,0 +1,238 @@
+// Boxes in a space of their own, each placed by a matrix.
+ghost use mathlib.Core.Path.{_≡_};
+ghost use mathlib.Core.Bool.{_||_};
+ghost use Rattle.matrix.specs.Range.{isEmpty};
+ghost use Rattle.number.specs.Slice.{stored};
+ghost use Rattle.verdict.specs.BBox.{flagOf, isFlag, numbers, boxOf, intoBox, alignedRange, centroid, volume, placed, extended, tolerance, preferred, smaller, aligned, merged, held, combined};
+use matrix::inverse::Inverted;
+use matrix::matrix::Mat4d;
+use matrix::range::Range3d;
+use matrix::vec::Vec3d;
+use matrix::vec::Vec4d;
+use number::order;
+use number::slice;
+use number::slice::at;
+
+// The range, the matrix from its space to the world's, and whether it bounds something with no area.
+pub struct BBox3d {
+    pub range: Range3d,
+    pub matrix: Mat4d,
+    pub flag: bool,
+}
+
+// The determinant at or under which a matrix is taken to have no inverse.
+const PRECISION_LIMIT: f64 = 1e-13;
+
+// Whether a number is one of a flag's: a zero of either sign, or 1.
+pub fn is_flag(x: f64) -> bool
+    ensures { λ r. ⌜ r ≡ isFlag x ⌝ }
+{
+    if x == 0.0 {
+        return true;
+    }
+    x == 1.0
+}
+
+// Whether the first of two volumes is taken: volumes this close count as equal.
+fn preferred(v: f64, w: f64) -> bool
+    ensures { λ r. ⌜ r ≡ preferred v w ⌝ }
+{
+    let tolerance = order::max(1e-6 * order::abs(order::max(v, w)), 1e-10);
+    if order::abs(v - w) <= tolerance {
+        return true;
+    }
+    v < w
+}
+
+// The number of a flag.
+fn flag_number(b: bool) -> f64
+    ensures { λ r. ⌜ r ≡ flagOf b ⌝ }
+{
+    if b {
+        return 1.0;
+    }
+    0.0
+}
+
+fn either(a: bool, b: bool) -> bool
+    ensures { λ r. ⌜ r ≡ (a || b) ⌝ }
+{
+    if a {
+        return true;
+    }
+    b
+}
+
+impl BBox3d {
+    // The inverse of its matrix, if it has one.
+    pub fn inverse(self) -> Inverted
+        ensures { λ r. ⌜ r ≡ intoBox self ⌝ }
+    {
+        self.matrix.inverse_above(PRECISION_LIMIT)
+    }
+
+    pub fn volume(self) -> f64
+        ensures { λ r. ⌜ r ≡ volume self ⌝ }
+    {
+        if self.range.is_empty() {
+            return 0.0;
+        }
+        let size = self.range.size();
+        order::abs(self.matrix.determinant3() * size.x * size.y * size.z)
+    }
+
+    // Under a matrix applied after its own.
+    pub fn transform(self, m: Mat4d) -> BBox3d
+        ensures { λ r. ⌜ r ≡ placed self m ⌝ }
+    {
+        let range = self.range;
+        BBox3d {
+            range,
+            matrix: self.matrix.product(m),
+            flag: self.flag,
+        }
+    }
+
+    pub fn aligned_range(self) -> Range3d
+        ensures { λ r. ⌜ r ≡ alignedRange self ⌝ }
+    {
+        self.range.transformed(self.matrix)
+    }
+
+    pub fn centroid(self) -> Vec3d
+        ensures { λ r. ⌜ r ≡ centroid self ⌝ }
+    {
+        self.matrix.transform(self.range.midpoint())
+    }
+
+    // Grown to hold another box, which the inverse of its own matrix projects into its space.
+    fn extended_by(self, other: BBox3d, inverse: Mat4d) -> BBox3d
+        ensures { λ r. ⌜ r ≡ extended self other inverse ⌝ }
+    {
+        let matrix = self.matrix;
+        let projected = other.range.transformed(other.matrix.product(inverse));
+        BBox3d {
+            range: self.range.union(projected),
+            matrix,
+            flag: self.flag,
+        }
+    }
+
+    fn smaller(self, other: BBox3d) -> BBox3d
+        ensures { λ r. ⌜ r ≡ smaller self other ⌝ }
+    {
+        if preferred(self.volume(), other.volume()) {
+            return self;
+        }
+        other
+    }
+
+    // Two boxes whose matrices have no inverse, as their aligned ranges.
+    fn aligned_with(self, other: BBox3d) -> BBox3d
+        ensures { λ r. ⌜ r ≡ aligned self other ⌝ }
+    {
+        BBox3d {
+            range: self.aligned_range().union(other.aligned_range()),
+            matrix: Mat4d::IDENTITY,
+            flag: false,
+        }
+    }
+
+    fn merged(self, other: BBox3d) -> BBox3d
+        ensures { λ r. ⌜ r ≡ merged self other (intoBox self) (intoBox other) ⌝ }
+    {
+        let into_self = self.inverse();
+        let into_other = other.inverse();
+        let Inverted::Matrix(m) = into_self else {
+            let Inverted::Matrix(n) = into_other else {
+                return self.aligned_with(other);
+            };
+            return other.extended_by(self, n);
+        };
+        let Inverted::Matrix(n) = into_other else {
+            return self.extended_by(other, m);
+        };
+        self.extended_by(other, m)
+            .smaller(other.extended_by(self, n))
+    }
+
+    fn held(self, other: BBox3d) -> BBox3d
+        ensures { λ r. ⌜ r ≡ held self other ⌝ }
+    {
+        if self.range.is_empty() {
+            return other;
+        }
+        if other.range.is_empty() {
+            return self;
+        }
+        self.merged(other)
+    }
+
+    // A box that holds both.
+    pub fn combine(self, other: BBox3d) -> BBox3d
+        ensures { λ r. ⌜ r ≡ combined self other ⌝ }
+    {
+        let held = self.held(other);
+        let range = held.range;
+        let matrix = held.matrix;
+        BBox3d {
+            range,
+            matrix,
+            flag: either(self.flag, other.flag),
+        }
+    }
+
+    // The numbers of a record.
+    pub fn load(s: &[f64]) -> BBox3d
+        ensures { λ r. ⌜ r ≡ boxOf (now (s .entry)) ⌝ }
+    {
+        BBox3d {
+            range: Range3d::load(s),
+            matrix: Mat4d {
+                r0: Vec4d::load_at(s, 6),
+                r1: Vec4d::load_at(s, 10),
+                r2: Vec4d::load_at(s, 14),
+                r3: Vec4d::load_at(s, 18),
+            },
+            flag: at(s, 22) == 1.0,
+        }
+    }
+
+    // Its numbers, into a slice of 23.
+    pub fn store(self, out: &mut [f64])
+        ensures { λ _. ⌜ now (out .exit) ≡ stored (numbers self) (now (out .entry)) ⌝ }
+    {
+        let min = self.range.min;
+        let max = self.range.max;
+        let r0 = self.matrix.r0;
+        let r1 = self.matrix.r1;
+        let r2 = self.matrix.r2;
+        let r3 = self.matrix.r3;
+        let all = [
+            min.x,
+            min.y,
+            min.z,
+            max.x,
+            max.y,
+            max.z,
+            r0.x,
+            r0.y,
+            r0.z,
+            r0.w,
+            r1.x,
+            r1.y,
+            r1.z,
+            r1.w,
+            r2.x,
+            r2.y,
+            r2.z,
+            r2.w,
+            r3.x,
+            r3.y,
+            r3.z,
+            r3.w,
+            flag_number(self.flag),
+        ];
+        slice::store(&all, out);
+    }
+}
