@@ -1,11 +1,23 @@
-/* Nugyarvit's geometry operations for C.
+/* Nugyarvit's geometry operations for C and C++, on x86-64.
  *
- * Link target/staticlib/libgf.a, which `rt staticlib gf` makes. Every function is proved to meet its contract
- * (crates/gf/src), for all lengths and all numbers, NaN and infinities included.
+ * Link target/staticlib/libgf.a, which `rt staticlib gf` makes. It needs memcpy of the C library and nothing else. Every
+ * function is proved to meet its contract (crates/gf/src), for all lengths and all numbers. The functions keep nothing from
+ * call to call, so that threads may call them at once.
  *
- * A slice is a pointer and a length counted in numbers. Pointers are not null and point to as many numbers as the
- * length says; a slice lent for a result overlaps no other. A function returns 0, or the number of its refusal:
+ * What is lent. A slice is two parameters: a pointer, and a length counted in numbers (double), not in bytes. The caller
+ * owes, and nothing tests:
  *
+ *   - a pointer is not null, even where its length is 0; it is aligned for what it points to, and points to at least as many
+ *     numbers as the length says, or to one where it has no length beside it;
+ *   - the memory lent for a result, `out`, overlaps nothing else that is lent in the call. Slices lent for reading may overlap
+ *     or be the same;
+ *   - nobody else writes any of that memory during the call;
+ *   - the processor rounds to nearest and keeps subnormal numbers, as it does when a program starts. A program that gcc links
+ *     with -ffast-math does not keep them.
+ *
+ * What comes back. A function that can refuse returns a status: 0, or the number of its refusal.
+ *
+ *   0  done: the result is in `out`
  *   1  an input slice's length differs from its record
  *   2  the output slice's length differs from its record
  *   3  a kind or a flag is outside its named values; a zero of either sign counts as 0
@@ -14,14 +26,31 @@
  *   6  a matrix is not a projection
  *   7  a coordinate is off the grid
  *
- * The refusals are given in that order. On a refusal nothing that was lent is written; slices lent for reading are never
- * written. A result that is a NaN may be any NaN. A lone number goes through a last parameter `double *`, a yes or no
- * through `uint32_t *`, 1 for yes and 0 for no; then no 2 is given.
+ * With status 0 all of `out` is written. Every refusal leaves `out` unchanged. Slices lent for reading are never written.
+ * Where more than one refusal applies, the one with the smaller number is returned. A result of several numbers goes into a
+ * slice, `double *out, size_t out_len`. A lone number goes into one `double *out`, a yes or no into one `uint32_t *out`, 1 for
+ * yes and 0 for no; these have no length, so no 2 is given.
  *
- * Records: a point has 3 numbers, a homogeneous point 4, a range 6 (least corner, greatest corner), a matrix 16, row by
- * row, for row vectors; a plane 4 (normal, distance), a ray 6 (start, direction), a projection 7 (kind 0 perspective or 1
- * orthographic, left, right, bottom, top, near, far), a box 23 (range, matrix, zero-area flag 0 or 1), a volume 48: six
- * planes that face into the view (left, right, bottom, top, near, far), then four rays, along the corners of the view.
+ * NaN and infinities may stand anywhere, and the arithmetic is that of IEEE 754. A comparison with a NaN is false: a NaN
+ * distance is on no plane's positive side, a NaN alone does not make a range empty, a NaN flag or kind is refused with 3, a
+ * NaN determinant with 4. Least and greatest pass over one NaN. A verdict is given whether or not a number is a NaN. A result
+ * that is a NaN may be any NaN.
+ *
+ * Records, in numbers:
+ *
+ *   point 3               x, y, z
+ *   homogeneous point 4   x, y, z, w
+ *   range 6               least corner, greatest corner
+ *   matrix 16             row by row, for row vectors: a point stands to the left, the translation is the last row
+ *   plane 4               normal, distance. A point is on its positive side where point times normal is at least distance
+ *   ray 6                 start, direction
+ *   projection 7          kind (0 perspective, 1 orthographic), left, right, bottom, top, near, far
+ *   box 23                range, the matrix that places it, zero-area flag (0 or 1)
+ *   volume 48             six planes that face into the view: left, right, bottom, top, near, far; then four rays along the
+ *                         edges of the view, from its near corners left bottom, left top, right top, right bottom
+ *
+ * Below, "In" gives the length of each slice lent for reading, "Out" what is written with status 0, and "Refuses" the
+ * refusals that the function can give, in their order.
  */
 #ifndef GF_H
 #define GF_H
@@ -33,160 +62,217 @@
 extern "C" {
 #endif
 
-/* The survey grid: a point of 3 coordinates in metres becomes whole centimetres, 3 numbers. Each coordinate is
- * multiplied by 100 in one rounded operation, then rounded to the nearest whole number, halves away from zero.
- * Refuses 1 (p_len is not 3), 2 (out_len is not 3), then 7 where a product is not finite or its rounded size exceeds
- * 65536. Zero results are positive. */
+/* ---- the survey grid */
+
+/* A point in metres becomes whole centimetres. Each coordinate is multiplied by 100 in one rounded operation, then rounded
+ * to the nearest whole number, halves away from zero. 7: a product is not finite, or its rounded size exceeds 65536. Zero
+ * results are positive.
+ * In: p 3. Out: 3 numbers. Refuses: 1, 2, 7. */
 uint32_t gf_grid(const double *p, size_t p_len, double *out, size_t out_len);
 
-/* Matrices: m, a and b have 16 numbers. All refuse 1, then 2 where a slice is lent for the result. */
+/* ---- matrices */
 
-/* a times b, 16 numbers: b is applied after a. */
+/* a times b: what moves by a first and by b then.
+ * In: a 16, b 16. Out: 16 numbers. Refuses: 1, 2. */
 uint32_t gf_product(const double *a, size_t a_len, const double *b, size_t b_len, double *out, size_t out_len);
 
-/* Rows become columns, 16 numbers. */
+/* Rows become columns.
+ * In: m 16. Out: 16 numbers. Refuses: 1, 2. */
 uint32_t gf_transpose(const double *m, size_t m_len, double *out, size_t out_len);
 
-/* The inverse, 16 numbers. Refuses 4, after 1 and 2, unless the determinant's size is above 1e-12; a NaN one is refused. */
+/* The inverse: the adjugate times the reciprocal of the determinant. 4: the determinant's size is not above 1e-12, or it is a
+ * NaN; an infinite one is accepted.
+ * In: m 16. Out: 16 numbers. Refuses: 1, 2, 4. */
 uint32_t gf_inverse(const double *m, size_t m_len, double *out, size_t out_len);
 
-/* The point p through m, 3 numbers, divided by its w; a w of zero, of either sign, counts as 1. */
+/* The point p through m, times the reciprocal of its w; a w of zero, of either sign, counts as 1.
+ * In: m 16, p 3. Out: 3 numbers. Refuses: 1, 2. */
 uint32_t gf_transform(const double *m, size_t m_len, const double *p, size_t p_len, double *out, size_t out_len);
 
-/* The point p through m, 3 numbers, the last column of m left out. */
+/* The point p through m, the last column of m left out.
+ * In: m 16, p 3. Out: 3 numbers. Refuses: 1, 2. */
 uint32_t gf_transform_affine(const double *m, size_t m_len, const double *p, size_t p_len, double *out, size_t out_len);
 
-/* The direction p through the upper three by three of m, 3 numbers. */
+/* The direction p through the upper three by three of m.
+ * In: m 16, p 3. Out: 3 numbers. Refuses: 1, 2. */
 uint32_t gf_transform_dir(const double *m, size_t m_len, const double *p, size_t p_len, double *out, size_t out_len);
 
-/* The homogeneous point v, 4 numbers, through m: 4 numbers. */
+/* The homogeneous point v through m.
+ * In: m 16, v 4. Out: 4 numbers. Refuses: 1, 2. */
 uint32_t gf_transform_homogeneous(const double *m, size_t m_len, const double *v, size_t v_len, double *out, size_t out_len);
 
-/* The determinant of the upper three by three. */
+/* The determinant of the upper three by three.
+ * In: m 16. Out: a lone number. Refuses: 1. */
 uint32_t gf_determinant3(const double *m, size_t m_len, double *out);
 
-/* Whether that determinant is above zero. */
+/* Whether that determinant is above zero.
+ * In: m 16. Out: yes or no. Refuses: 1. */
 uint32_t gf_is_right_handed(const double *m, size_t m_len, uint32_t *out);
 
-/* Ranges: range, a and b have 6 numbers. All refuse 1, then 2 where a slice is lent for the result. */
+/* ---- ranges */
 
-/* Whether the least is above the greatest along some axis; a NaN alone does not make a range empty. */
+/* Whether the least is above the greatest along some axis.
+ * In: range 6. Out: yes or no. Refuses: 1. */
 uint32_t gf_range_is_empty(const double *range, size_t range_len, uint32_t *out);
 
-/* The range that holds both, 6 numbers; an empty one yields the other, and of two empty ones the second is the result. */
+/* The range that holds both. An empty one yields the other, and of two empty ones the result is b.
+ * In: a 6, b 6. Out: 6 numbers. Refuses: 1, 2. */
 uint32_t gf_range_union(const double *a, size_t a_len, const double *b, size_t b_len, double *out, size_t out_len);
 
-/* What both hold, 6 numbers. */
+/* What both hold: the greater of the least corners, the lesser of the greatest. It is empty where they do not meet.
+ * In: a 6, b 6. Out: 6 numbers. Refuses: 1, 2. */
 uint32_t gf_range_intersection(const double *a, size_t a_len, const double *b, size_t b_len, double *out, size_t out_len);
 
-/* The midpoint, 3 numbers. */
+/* The midpoint: half the least corner plus half the greatest.
+ * In: range 6. Out: 3 numbers. Refuses: 1, 2. */
 uint32_t gf_range_midpoint(const double *range, size_t range_len, double *out, size_t out_len);
 
-/* The square of the distance from p to the range, zero inside it. */
+/* The square of the distance from p to the range, zero inside it. An axis along which p is neither below the least
+ * nor above the greatest adds zero, and so does a NaN coordinate of p.
+ * In: range 6, p 3. Out: a lone number. Refuses: 1. */
 uint32_t gf_range_distance_squared(const double *range, size_t range_len, const double *p, size_t p_len, double *out);
 
-/* The range, aligned to the axes, that holds the range moved by m: 6 numbers. An empty range stays as it is. */
+/* The range, aligned to the axes, that holds the range moved by m, the last column of m left out. An empty range stays as it
+ * is.
+ * In: range 6, m 16. Out: 6 numbers. Refuses: 1, 2. */
 uint32_t gf_range_transformed(const double *range, size_t range_len, const double *m, size_t m_len, double *out, size_t out_len);
 
-/* The eight corners, 24 numbers: x changes fastest, the least first. */
+/* The eight corners, three numbers each. Corner k, from 0 on, has the greatest x where bit 0 of k is set, the greatest y where
+ * bit 1 is, the greatest z where bit 2 is, and the least elsewhere.
+ * In: range 6. Out: 24 numbers. Refuses: 1, 2. */
 uint32_t gf_range_corners(const double *range, size_t range_len, double *out, size_t out_len);
 
-/* Planes: plane has 4 numbers and is taken as it is given, its normal of any length. All refuse 1, then 2 where a slice is
- * lent for the result. */
+/* ---- planes: one that is lent is taken as it is, its normal of any length */
 
-/* The plane that faces along a normal of 3 numbers, which is made unit length, at a distance from the origin: 4 numbers. */
+/* The plane that faces along a normal, at a distance from the origin. The normal is multiplied by the reciprocal of its
+ * length, or of 1e-10 where its length is less or a NaN; the distance is kept.
+ * In: normal 3, and the number distance. Out: 4 numbers. Refuses: 1, 2. */
 uint32_t gf_plane_new(const double *normal, size_t normal_len, double distance, double *out, size_t out_len);
 
-/* The plane through three points, facing the side from which they run counter-clockwise: 4 numbers. */
+/* The plane through three points, facing the side from which they run counter-clockwise; its normal is made unit length as
+ * by gf_plane_new.
+ * In: p0 3, p1 3, p2 3. Out: 4 numbers. Refuses: 1, 2. */
 uint32_t gf_plane_from_points(const double *p0, size_t p0_len, const double *p1, size_t p1_len, const double *p2, size_t p2_len, double *out, size_t out_len);
 
-/* The plane where a x + b y + c z + w is zero, for an equation a, b, c, w: 4 numbers. A normal of length zero takes -w as
- * distance. */
+/* The plane where a x + b y + c z + w is zero, for an equation a, b, c, w. Its normal is made unit length as by gf_plane_new;
+ * its distance is -w divided by the length of (a, b, c), or -w where that length comes out as zero.
+ * In: equation 4. Out: 4 numbers. Refuses: 1, 2. */
 uint32_t gf_plane_from_equation(const double *equation, size_t equation_len, double *out, size_t out_len);
 
-/* How far p is from the plane, positive on the side that the normal points into. */
+/* How far p is from the plane, positive on the side that the normal points into: p times normal, less the plane's distance.
+ * In: plane 4, p 3. Out: a lone number. Refuses: 1. */
 uint32_t gf_plane_distance(const double *plane, size_t plane_len, const double *p, size_t p_len, double *out);
 
-/* Whether p is on the plane or on that side; a NaN distance is not. */
+/* Whether p is on the plane or on that side; where the distance is a NaN it is not.
+ * In: plane 4, p 3. Out: yes or no. Refuses: 1. */
 uint32_t gf_plane_on_positive_side(const double *plane, size_t plane_len, const double *p, size_t p_len, uint32_t *out);
 
-/* The plane under a matrix, 4 numbers. Refuses 4 last, where the matrix has no inverse. */
+/* The plane under a matrix, its normal made unit length. 4: where gf_inverse refuses the matrix.
+ * In: plane 4, m 16. Out: 4 numbers. Refuses: 1, 2, 4. */
 uint32_t gf_plane_transformed(const double *plane, size_t plane_len, const double *m, size_t m_len, double *out, size_t out_len);
 
-/* Rays: ray has 6 numbers. All refuse 1, then 2. */
+/* ---- rays: a distance along one is counted in lengths of its direction */
 
-/* The point at a distance, in lengths of the direction: 3 numbers. */
+/* The point at a distance: start plus direction times distance.
+ * In: ray 6, and the number distance. Out: 3 numbers. Refuses: 1, 2. */
 uint32_t gf_ray_point(const double *ray, size_t ray_len, double distance, double *out, size_t out_len);
 
-/* The ray under a matrix, 6 numbers. */
+/* The ray under a matrix: its start as by gf_transform, its direction as by gf_transform_dir.
+ * In: ray 6, m 16. Out: 6 numbers. Refuses: 1, 2. */
 uint32_t gf_ray_transformed(const double *ray, size_t ray_len, const double *m, size_t m_len, double *out, size_t out_len);
 
-/* Where the ray meets the plane: distance, and 1 for the front or 0, 2 numbers. Refuses 5 last, for a miss. */
+/* Where the ray meets the plane: distance, then 1 where it meets the front, the side that the normal points into, or 0.
+ * The plane is taken to go through normal times distance, as it does where the normal has length 1. 5: direction times normal
+ * is below 1e-10 in size, or the distance is not at least 0. Distance zero hits.
+ * In: ray 6, plane 4. Out: 2 numbers. Refuses: 1, 2, 5. */
 uint32_t gf_ray_intersect_plane(const double *ray, size_t ray_len, const double *plane, size_t plane_len, double *out, size_t out_len);
 
-/* Where the ray meets the triangle: distance, the weights gamma, alpha and beta of the first, second and third point, and
- * 1 for the front or 0, 5 numbers. Refuses 5 last, for a miss. */
+/* Where the ray meets the triangle: distance, the weights gamma, alpha and beta of p0, p1 and p2, then 1 for the front, the
+ * side from which the points run counter-clockwise, or 0. Gamma is rounded to binary32. A weight strictly between -1e-10 and
+ * 0 becomes 0. 5: the plane of the points is missed, beta is not from 0 to 1, or alpha or gamma is below 0; a NaN alpha or
+ * gamma passes.
+ * In: ray 6, p0 3, p1 3, p2 3. Out: 5 numbers. Refuses: 1, 2, 5. */
 uint32_t gf_ray_intersect_triangle(const double *ray, size_t ray_len, const double *p0, size_t p0_len, const double *p1, size_t p1_len, const double *p2, size_t p2_len, double *out, size_t out_len);
 
-/* Projections. */
+/* ---- projections */
 
-/* The matrix of a projection, 16 numbers. Refuses 1, 2, then 3 for a kind that is neither 0, of either sign, nor 1. */
+/* The matrix of a projection. 3: the kind is neither 0, of either sign, nor 1.
+ * In: params 7. Out: 16 numbers. Refuses: 1, 2, 3. */
 uint32_t gf_projection_matrix(const double *params, size_t params_len, double *out, size_t out_len);
 
-/* The projection of a matrix, 7 numbers. Refuses 1, 2, then 6 where the matrix is none: its six numbers are finite, and the
- * matrix that they build is m within 1e-6. */
+/* The projection of a matrix. The number in the third row and fourth column tells the kind: less than 1e-6 from -1, or else
+ * from 0. 6: it is neither, one of the six numbers found is not finite, or the matrix that they build is not m within 1e-6,
+ * entry by entry, of the larger size of the two or of 1.
+ * In: m 16. Out: 7 numbers. Refuses: 1, 2, 6. */
 uint32_t gf_projection_from_matrix(const double *m, size_t m_len, double *out, size_t out_len);
 
-/* Boxes: box, a and b have 23 numbers. All refuse 1, then 2 where a slice is lent for the result, then 3 for a flag that is
- * neither 0, of either sign, nor 1. */
+/* ---- boxes. 3, in each: the flag of a box is neither 0, of either sign, nor 1 */
 
-/* A box that holds both, 23 numbers. Its flag is set if either one's is. */
+/* A box that holds both. Of a grown to hold b, in the space of a, and b grown to hold a, in the space of b, it is the first if
+ * the volumes agree within a tolerance or the first is smaller, else the second. A box with an empty range yields the other, b
+ * where both are. A matrix without an inverse, its determinant's size not above 1e-13, lends no space: the other's is taken,
+ * and of two such boxes the result is the range that holds both aligned ranges, under the identity. The flag is 1 if
+ * either one's is.
+ * In: a 23, b 23. Out: 23 numbers. Refuses: 1, 2, 3. */
 uint32_t gf_bbox_combine(const double *a, size_t a_len, const double *b, size_t b_len, double *out, size_t out_len);
 
-/* The box under a matrix that is applied after its own, 23 numbers. */
+/* The box under a matrix that is applied after its own; range and flag are kept.
+ * In: b 23, m 16. Out: 23 numbers. Refuses: 1, 2, 3. */
 uint32_t gf_bbox_transform(const double *b, size_t b_len, const double *m, size_t m_len, double *out, size_t out_len);
 
-/* The volume of the placed box, zero for an empty range. */
+/* The volume of the placed box, zero for an empty range.
+ * In: b 23. Out: a lone number. Refuses: 1, 3. */
 uint32_t gf_bbox_volume(const double *b, size_t b_len, double *out);
 
-/* The range, aligned to the axes, that holds the placed box: 6 numbers. */
+/* The range, aligned to the axes, that holds the placed box, as by gf_range_transformed.
+ * In: b 23. Out: 6 numbers. Refuses: 1, 2, 3. */
 uint32_t gf_bbox_aligned_range(const double *b, size_t b_len, double *out, size_t out_len);
 
-/* The center of the placed box, 3 numbers. */
+/* The midpoint of the range, placed as by gf_transform.
+ * In: b 23. Out: 3 numbers. Refuses: 1, 2, 3. */
 uint32_t gf_bbox_centroid(const double *b, size_t b_len, double *out, size_t out_len);
 
-/* Verdicts: volume has 48 numbers. All refuse 1, then 3 where a box occurs. Touching a plane counts as in view. */
+/* ---- verdicts: the first four by the planes of a volume, where touching counts. docs/VERDICTS.md tells what they mean */
 
-/* Whether the point is in view. */
+/* Whether the point is on the positive side of every plane. The rays are not read.
+ * In: volume 48, p 3. Out: yes or no. Refuses: 1. */
 uint32_t gf_intersects_point(const double *volume, size_t volume_len, const double *p, size_t p_len, uint32_t *out);
 
-/* Whether any of the segment from p0 to p1 is in view. */
+/* Whether any of the segment from p0 to p1, its ends included, is in view. The rays are not read.
+ * In: volume 48, p0 3, p1 3. Out: yes or no. Refuses: 1. */
 uint32_t gf_intersects_segment(const double *volume, size_t volume_len, const double *p0, size_t p0_len, const double *p1, size_t p1_len, uint32_t *out);
 
-/* Whether any of the triangle is in view. */
+/* Whether any of the triangle is in view: a corner, some of a side, or a place where a ray of the volume meets it. Only the
+ * first ray is tried where all corners are on the positive side of the near and of the far plane.
+ * In: volume 48, p0 3, p1 3, p2 3. Out: yes or no. Refuses: 1. */
 uint32_t gf_intersects_triangle(const double *volume, size_t volume_len, const double *p0, size_t p0_len, const double *p1, size_t p1_len, const double *p2, size_t p2_len, uint32_t *out);
 
-/* Whether the box is behind no plane; a box near a corner of the view may count though it is just outside. An empty box is
- * not in view. A box whose matrix has no inverse is taken as if its matrix were the identity. */
+/* Whether the placed box is wholly behind no plane; a box near an edge or a corner of the view may count though it is just
+ * outside. A box with an empty range is not in view. One whose matrix has no inverse, its determinant's size not above 1e-13,
+ * is taken as if its matrix were the identity. The rays are not read. 3: the flag is neither 0, of either sign, nor 1.
+ * In: volume 48, bbox 23. Out: yes or no. Refuses: 1, 3. */
 uint32_t gf_intersects_bbox(const double *volume, size_t volume_len, const double *bbox, size_t bbox_len, uint32_t *out);
 
-/* Whether the box is in the clip volume of a view and projection matrix, by strict comparisons; emptiness is not tested. */
+/* Whether the box is in the clip volume of a matrix of view and projection: moved there, some corner has x below w and some
+ * has x above -w, and so for y and z. These comparisons are strict, so touching does not count. Emptiness is not tested.
+ * 3: the flag is neither 0, of either sign, nor 1.
+ * In: bbox 23, m 16. Out: yes or no. Refuses: 1, 3. */
 uint32_t gf_intersects_view_volume(const double *bbox, size_t bbox_len, const double *m, size_t m_len, uint32_t *out);
 
-/* The numbers that the other operations are made of. They refuse nothing. */
+/* ---- the numbers that the other operations are made of. These return their result and refuse nothing */
 
-/* The square root, rounded to nearest; -0 for -0, NaN for what is below zero. */
+/* The square root, rounded to nearest, ties to even: -0 for -0, NaN for what is below zero and for a NaN. */
 double gf_sqrt(double x);
 
-/* The magnitude. */
+/* The magnitude; some NaN for a NaN. */
 double gf_abs(double x);
 
-/* The smaller and the larger of two numbers. One NaN is passed over; of equal operands, the two zeros among them, the
- * first is returned. */
+/* The smaller and the larger of two numbers. One NaN is passed over, two give a NaN; of equal operands, the two zeros among
+ * them, the first is returned. */
 double gf_min(double x, double y);
 double gf_max(double x, double y);
 
-/* binary64 to binary32, rounded to nearest, ties to even; and back, without loss. */
+/* binary64 to binary32, rounded to nearest, ties to even; and back, without loss. A NaN gives some NaN. */
 float gf_narrow(double x);
 double gf_widen(float x);
 
