@@ -1,0 +1,62 @@
+/* One orchard through the C library; orchard.rs does the same in Rust. `examples/run` builds and runs both. */
+#include "gf.h"
+#include <stdio.h>
+
+/* The view, in centimetres: x from 0 to 4000, y from 0 to 3000, z from 0 to 600. Six planes that face into it; the four rays,
+ * which the triangle verdict alone reads, stay zero. */
+static const double view[48] = {
+    1, 0, 0, 0, -1, 0, 0, -4000,
+    0, 1, 0, 0, 0, -1, 0, -3000,
+    0, 0, 1, 0, 0, 0, -1, -600,
+};
+
+/* Two blocks: least corner, greatest corner, the matrix that places them, row by row, and the zero-area flag. The second is
+ * turned by a quarter and moved, so that it stands from 4000, 2000, 0 to 4600, 2800, 250. */
+static const double south[23] = {200, -900, 0, 1200, -100, 300, 1, 0, 0, 0, 0, 1, 0, 0, 0, 0, 1, 0, 0, 0, 0, 1, 0};
+static const double north[23] = {0, 0, 0, 800, 600, 250, 0, 1, 0, 0, -1, 0, 0, 0, 0, 0, 1, 0, 4600, 2000, 0, 1, 0};
+
+static void print_verdict(const char *what, uint32_t status, uint32_t yes)
+{
+    if (status != 0)
+        printf("%s: refused %u\n", what, (unsigned)status);
+    else
+        printf("%s: %s\n", what, yes ? "yes" : "no");
+}
+
+static void print_numbers(const char *what, uint32_t status, const double *numbers, int count)
+{
+    printf("%s:", what);
+    if (status != 0)
+        printf(" refused %u", (unsigned)status);
+    else
+        for (int i = 0; i < count; i++)
+            printf(" %.0f", numbers[i]);
+    printf("\n");
+}
+
+int main(void)
+{
+    const double mast[3] = {-500, 1500, 550};
+    const double survey[3] = {12.34, 20.5, 1.6}, far_off[3] = {656, 0, 0}; /* metres */
+    double tree[3] = {0}, both[23] = {0}, range[6] = {0};
+    uint32_t status, yes = 0;
+
+    status = gf_grid(survey, 3, tree, 3);
+    print_numbers("tree in centimetres", status, tree, 3);
+    status = gf_intersects_segment(view, 48, mast, 3, tree, 3, &yes);
+    print_verdict("line from the mast to the tree in view", status, yes);
+
+    status = gf_intersects_bbox(view, 48, south, 23, &yes);
+    print_verdict("south block in view", status, yes);
+    status = gf_intersects_bbox(view, 48, north, 23, &yes);
+    print_verdict("north block, which touches, in view", status, yes);
+
+    status = gf_bbox_combine(south, 23, north, 23, both, 23);
+    if (status == 0)
+        status = gf_bbox_aligned_range(both, 23, range, 6);
+    print_numbers("both blocks, least and greatest", status, range, 6);
+
+    status = gf_grid(far_off, 3, tree, 3);
+    print_numbers("tree at 656 metres", status, tree, 3);
+    return 0;
+}

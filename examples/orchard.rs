@@ -1,0 +1,74 @@
+//! One orchard through the C library, from Rust; orchard.c does the same in C. `examples/run` builds and runs both.
+
+// As include/gf.h declares them. Nothing checks these declarations against the archive.
+extern "C" {
+    fn gf_grid(p: *const f64, p_len: usize, out: *mut f64, out_len: usize) -> u32;
+    fn gf_intersects_segment(v: *const f64, v_len: usize, a: *const f64, a_len: usize, b: *const f64, b_len: usize, out: *mut u32) -> u32;
+    fn gf_intersects_bbox(v: *const f64, v_len: usize, b: *const f64, b_len: usize, out: *mut u32) -> u32;
+    fn gf_bbox_combine(a: *const f64, a_len: usize, b: *const f64, b_len: usize, out: *mut f64, out_len: usize) -> u32;
+    fn gf_bbox_aligned_range(b: *const f64, b_len: usize, out: *mut f64, out_len: usize) -> u32;
+}
+
+/// What a call wrote, or the number of its refusal. The calls are safe: a slice's pointer and length belong together, and
+/// the result is a value of its own, so that it overlaps nothing.
+fn answer<T>(mut out: T, call: impl FnOnce(&mut T) -> u32) -> Result<T, u32> {
+    match call(&mut out) {
+        0 => Ok(out),
+        refusal => Err(refusal),
+    }
+}
+
+fn grid(p: &[f64]) -> Result<[f64; 3], u32> {
+    answer([0.0; 3], |out| unsafe { gf_grid(p.as_ptr(), p.len(), out.as_mut_ptr(), out.len()) })
+}
+
+fn segment_in_view(v: &[f64], a: &[f64], b: &[f64]) -> Result<u32, u32> {
+    answer(0, |out| unsafe { gf_intersects_segment(v.as_ptr(), v.len(), a.as_ptr(), a.len(), b.as_ptr(), b.len(), out) })
+}
+
+fn box_in_view(v: &[f64], b: &[f64]) -> Result<u32, u32> {
+    answer(0, |out| unsafe { gf_intersects_bbox(v.as_ptr(), v.len(), b.as_ptr(), b.len(), out) })
+}
+
+fn combine(a: &[f64], b: &[f64]) -> Result<[f64; 23], u32> {
+    answer([0.0; 23], |out| unsafe { gf_bbox_combine(a.as_ptr(), a.len(), b.as_ptr(), b.len(), out.as_mut_ptr(), out.len()) })
+}
+
+fn aligned_range(b: &[f64]) -> Result<[f64; 6], u32> {
+    answer([0.0; 6], |out| unsafe { gf_bbox_aligned_range(b.as_ptr(), b.len(), out.as_mut_ptr(), out.len()) })
+}
+
+fn print_verdict(what: &str, verdict: Result<u32, u32>) {
+    match verdict {
+        Ok(yes) => println!("{what}: {}", if yes == 1 { "yes" } else { "no" }),
+        Err(refusal) => println!("{what}: refused {refusal}"),
+    }
+}
+
+fn print_numbers<const N: usize>(what: &str, numbers: Result<[f64; N], u32>) {
+    match numbers {
+        Ok(n) => println!("{what}: {}", n.map(|x| format!("{x:.0}")).join(" ")),
+        Err(refusal) => println!("{what}: refused {refusal}"),
+    }
+}
+
+fn main() -> Result<(), u32> {
+    // x from 0 to 4000, y from 0 to 3000, z from 0 to 600 centimetres; the four rays stay zero.
+    let mut view = [0.0; 48];
+    view[..12].copy_from_slice(&[1.0, 0.0, 0.0, 0.0, -1.0, 0.0, 0.0, -4000.0, 0.0, 1.0, 0.0, 0.0]);
+    view[12..24].copy_from_slice(&[0.0, -1.0, 0.0, -3000.0, 0.0, 0.0, 1.0, 0.0, 0.0, 0.0, -1.0, -600.0]);
+    let rows = |m: [[f64; 4]; 4]| m.concat();
+    let upright = rows([[1.0, 0.0, 0.0, 0.0], [0.0, 1.0, 0.0, 0.0], [0.0, 0.0, 1.0, 0.0], [0.0, 0.0, 0.0, 1.0]]);
+    let turned = rows([[0.0, 1.0, 0.0, 0.0], [-1.0, 0.0, 0.0, 0.0], [0.0, 0.0, 1.0, 0.0], [4600.0, 2000.0, 0.0, 1.0]]);
+    let south = [&[200.0, -900.0, 0.0, 1200.0, -100.0, 300.0][..], &upright[..], &[0.0]].concat();
+    let north = [&[0.0, 0.0, 0.0, 800.0, 600.0, 250.0][..], &turned[..], &[0.0]].concat();
+
+    let tree = grid(&[12.34, 20.5, 1.6])?;
+    print_numbers("tree in centimetres", Ok(tree));
+    print_verdict("line from the mast to the tree in view", segment_in_view(&view, &[-500.0, 1500.0, 550.0], &tree));
+    print_verdict("south block in view", box_in_view(&view, &south));
+    print_verdict("north block, which touches, in view", box_in_view(&view, &north));
+    print_numbers("both blocks, least and greatest", combine(&south, &north).and_then(|both| aligned_range(&both)));
+    print_numbers("tree at 656 metres", grid(&[656.0, 0.0, 0.0]));
+    Ok(())
+}
