@@ -4,7 +4,7 @@
 //!     compare run [COUNT] [FUNCTION..]
 //!     compare grid [COUNT]
 //!     compare bench [FUNCTION..]
-//!     compare record [number|matrix|verdict] [FILE]
+//!     compare record [number|geometry] [FILE]
 
 mod bench;
 mod call;
@@ -38,7 +38,7 @@ fn main() -> ExitCode {
                 recorded(File::named(name).expect("just seen"), path.first().copied())
             }
             [path] => recorded(File::Number, Some(path)),
-            _ => Err(String::from("record [number|matrix|verdict] [FILE]")),
+            _ => Err(String::from("record [number|geometry] [FILE]")),
         },
         ["bench", ref names @ ..] => chosen(names).map(|ops| {
             bench::bench(&ops);

@@ -1,5 +1,5 @@
 //! Recorded answers, for programs that replay them: words of eight bytes, the
-//! low byte first. README.md has the three files' form.
+//! low byte first. README.md has the two files' form.
 
 use crate::inputs::{self, Rng};
 use crate::judge;
@@ -9,12 +9,11 @@ use std::io::{self, Write};
 /// The words of one input and what is to be answered.
 pub type Words = Vec<u64>;
 
-/// The three files.
+/// The two files.
 #[derive(Clone, Copy, PartialEq)]
 pub enum File {
     Number,
-    Matrix,
-    Verdict,
+    Geometry,
 }
 
 impl File {
@@ -22,19 +21,14 @@ impl File {
     pub fn named(name: &str) -> Option<File> {
         match name {
             "number" => Some(File::Number),
-            "matrix" => Some(File::Matrix),
-            "verdict" => Some(File::Verdict),
+            "geometry" => Some(File::Geometry),
             _ => None,
         }
     }
 
     /// The file in which an operation of this code is recorded.
     fn of(code: u64) -> File {
-        match code {
-            0..101 => File::Number,
-            101..201 => File::Matrix,
-            _ => File::Verdict,
-        }
+        if code < 101 { File::Number } else { File::Geometry }
     }
 }
 

@@ -146,6 +146,11 @@ pub fn placement(rng: &mut Rng) -> Matrix {
     placement_of(array::from_fn(|i| rows[i].map(|x| x * scale[i])), ordinary_point(rng))
 }
 
+/// Turned and moved, sizes kept.
+pub fn rigid_placement(rng: &mut Rng) -> Matrix {
+    placement_of(turned_rows(rng), ordinary_point(rng))
+}
+
 /// Turned by quarters and moved by whole numbers.
 pub fn quarter_placement(rng: &mut Rng) -> Matrix {
     let size = rng.pick(&[0, 8, 100, 65_536]);

@@ -204,9 +204,14 @@ fn of_box() -> Box<dyn Op> {
     call!(221 gf_intersects_bbox(volume: 48, b: 23) -> bool { Ok(planes(volume).intersects_bbox(&boxed(b)?)) })
         .fixed(boxes.map(|b| (CUBE, b)).into_iter().chain(more).collect())
         .drawn(|_, rng| inputs::volume_and_box(rng))
-        .timed("frustums", |_, rng| {
+        .timed("frustums, scaled boxes", |_, rng| {
             let (volume, _, _, _, b) = inputs::asked(rng);
             (volume, b)
+        })
+        .timed("frustums, rigid boxes", |_, rng| {
+            let (volume, [x, y, z], ..) = inputs::asked(rng);
+            let placed = with(inputs::rigid_placement(rng), &[(12, x), (13, y), (14, z)]);
+            (volume, box_of(inputs::ordinary_range(rng), placed, 0.0))
         })
         .op()
 }

@@ -4,7 +4,7 @@ use mathlib.Core.Bool.{Bool}
 use mathlib.Core.List.{List}
 use Prim.Native.Nat.{ℕ}
 use lib.Ieee.{Float}
-use Rattle.number.specs.Answer.{Reply, Outcome, Lone, answered, reply, statusOf, lone, put, putVerdict, scalarOf, verdictOf}
+use Rattle.number.specs.Answer.{Reply, Outcome, Lone, answered, reply, statusOf, put, putVerdict}
 use Rattle.number.specs.declared.answer.Written.{Written}
 
 pub with-status : (n : ℕ) (a : Written) (out : List Float) (r : Reply) → n ≡ statusOf a → reply a out ≡ r → answered n out ≡ r

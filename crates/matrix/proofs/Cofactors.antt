@@ -15,9 +15,9 @@ use Rattle.number.specs.Whole.{signed}
 use Rattle.number.proofs.Integer.{by-test, of-self as self, of-pos, of-neg, of-eq, times-assoc}
 use Rattle.matrix.specs.Inverse.{without}
 use Rattle.matrix.specs.Placement.{QuarterTurn, PlacementWithin, sizes}
-use Rattle.matrix.specs.Placement.{dotℤ, dot4ℤ, columnℤ, determinantℤ, inverseℤ}
+use Rattle.matrix.specs.Placement.{dotℤ, dot4ℤ, columnℤ}
 use Rattle.matrix.proofs.Signs.{_⊞_, _⊟_, _⊠_, flip, flip-one, flip-zero, flip-neg, dot-flip, plus-zero}
-use Rattle.matrix.proofs.QuarterTurns.{three, four, unit, Single, target, same-dot, inverse-upper, inverse-last}
+use Rattle.matrix.proofs.QuarterTurns.{determinantℤ, inverseℤ, three, four, unit, Single, target, same-dot, inverse-upper, inverse-last}
 
 -- ---- determinants in whole numbers, as `Inverse` has them in floats
 

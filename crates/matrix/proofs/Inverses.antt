@@ -22,8 +22,8 @@ use Rattle.matrix.specs.declared.inverse.Inverted.the-variants.{Matrix, 
 use Rattle.matrix.specs.Constants.{one, singularDeterminant}
 use Rattle.matrix.specs.Matrix.{entry, determinant3}
 use Rattle.matrix.specs.Inverse.{turned, plus, expanded, without, cofactor, adjugate, determinant, scaled, inverseAbove}
-use Rattle.matrix.specs.Placement.{WholeMatrix, PlacementWithin, inverseℤ}
-use Rattle.matrix.proofs.QuarterTurns.{upper-size}
+use Rattle.matrix.specs.Placement.{WholeMatrix, PlacementWithin}
+use Rattle.matrix.proofs.QuarterTurns.{inverseℤ, upper-size}
 use Rattle.matrix.proofs.Signs.{flip, flip-flip}
 use Rattle.matrix.proofs.WholeMatrices.{wide, over-unit, entry-fit, entry-matrix, whole-matrix, dot4-fit, determinant3-whole}
 use Rattle.matrix.proofs.Units.{is-one}

@@ -10,10 +10,10 @@ use lib.Dec.{lit<}
 use lib.IntN.{ℤ, natAbs, _+ℤ_, _*ℤ_}
 use lib.Signed.{_≤ℤ_}
 use Rattle.number.proofs.Integer.{of-self as self, of-neg, of-eq, of-le, of-min, of-max, le-is, min-ind, max-ind}
-use Rattle.matrix.specs.Placement.{Within, NonEmpty, PlacementWithin, movedℤ, productℤ, inverseℤ}
+use Rattle.matrix.specs.Placement.{Within, NonEmpty, PlacementWithin, movedℤ, productℤ}
 use Rattle.matrix.specs.Placement.{smaller, larger, placedLow, placedHigh}
 use Rattle.matrix.proofs.Signs.{_⊞_, flip}
-use Rattle.matrix.proofs.QuarterTurns.{source, moved-is, moved-within, product-placement, product-moves, inverse-placement, undone}
+use Rattle.matrix.proofs.QuarterTurns.{inverseℤ, source, moved-is, moved-within, product-placement, product-moves, inverse-placement, undone}
 use Rattle.matrix.proofs.WholeRanges.{placed-low, placed-high}
 
 -- ---- the least, and where u is true the greatest

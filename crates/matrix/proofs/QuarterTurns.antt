@@ -6,14 +6,29 @@ use Prim.Native.Nat.{ℕ, zero, suc, _+_, _≤_, _<_}
 use native.Mathlib.Omega.{arith}
 use mathlib.Core.Bool.{Bool, true, false, not, cond}
 use lib.Dec.{eqb, eqb→eq, lit<}
-use lib.IntN.{ℤ, pos, negsuc, negℤ, natAbs, _+ℤ_, _*ℤ_, *ℤ-comm, pos-ne-negsuc}
+use lib.IntN.{ℤ, pos, negsuc, negℤ, natAbs, _+ℤ_, _-ℤ_, _*ℤ_, *ℤ-comm, pos-ne-negsuc}
 use lib.Signed.{nonNeg}
 use Rattle.number.specs.Whole.{signed}
 use Rattle.number.proofs.Integer.{by-test, of-self as self, of-pos, of-neg, of-eq, abs-sum, abs-neg}
 use Rattle.number.proofs.Exact.{abs-signed}
 use Rattle.matrix.specs.Placement.{Within, QuarterTurn, PlacementWithin, sizes}
-use Rattle.matrix.specs.Placement.{dotℤ, columnℤ, turnedℤ, movedℤ, productℤ, transposeℤ, inverseℤ}
+use Rattle.matrix.specs.Placement.{dotℤ, columnℤ, turnedℤ, movedℤ, productℤ}
 use Rattle.matrix.proofs.Signs.{_⊞_, _⊠_, flip, abs-flip, times-unit, dot-flip, plus-zero, plus-one}
+
+-- ---- exact operations that the laws alone speak of
+
+abbrev pub transposeℤ : (ℕ → ℕ → ℤ) → ℕ → ℕ → ℤ
+transposeℤ f i j = f j i
+
+-- the rule of Sarrus, for the upper three by three
+abbrev pub determinantℤ : (ℕ → ℕ → ℤ) → ℤ
+determinantℤ f =
+    f 0 0 *ℤ f 1 1 *ℤ f 2 2 +ℤ f 0 1 *ℤ f 1 2 *ℤ f 2 0 +ℤ f 0 2 *ℤ f 1 0 *ℤ f 2 1
+    -ℤ f 0 0 *ℤ f 1 2 *ℤ f 2 1 -ℤ f 0 1 *ℤ f 1 0 *ℤ f 2 2 -ℤ f 0 2 *ℤ f 1 1 *ℤ f 2 0
+
+-- what undoes a placement: its three by three transposed, the translation turned back and negated, the same last column
+abbrev pub inverseℤ : (ℕ → ℕ → ℤ) → ℕ → ℕ → ℤ
+inverseℤ f i j = cond (eqb j 3) (f i 3) (cond (eqb i 3) (negℤ (turnedℤ (transposeℤ f) (f 3) j)) (f j i))
 
 -- ---- what holds at each place holds at every place
 

@@ -23,7 +23,7 @@ same-vec3 p q r = cc
 pub same-vec4 : {x x' y y' z z' w w' : Float} → x ≡ x' → y ≡ y' → z ≡ z' → w ≡ w' → xyzw x y z w ≡ xyzw x' y' z' w'
 same-vec4 p q r s = cc
 
-abbrev rows : Vec4d → Vec4d → Vec4d → Vec4d → Mat4d
+abbrev pub rows : Vec4d → Vec4d → Vec4d → Vec4d → Mat4d
 rows a b c d = record { r0 = a; r1 = b; r2 = c; r3 = d }
 
 pub same-matrix : {a a' b b' c c' d d' : Vec4d} → a ≡ a' → b ≡ b' → c ≡ c' → d ≡ d' → rows a b c d ≡ rows a' b' c' d'

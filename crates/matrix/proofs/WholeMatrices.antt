@@ -6,7 +6,7 @@ use Prim.Native.Nat.{ℕ, _+_, _*_, _^_, _≤_, _<_}
 use native.Mathlib.Omega.{arith}
 use mathlib.Core.Bool.{Bool, true, false, cond}
 use lib.Dec.{T, ltb, lit<, lit≤}
-use lib.IntN.{ℤ, pos, natAbs, _+ℤ_, _*ℤ_, +ℤ-idl}
+use lib.IntN.{ℤ, pos, natAbs, _*ℤ_}
 use lib.Ieee.{Float, binary64, eq, round}
 use Rattle.number.specs.Arithmetic.{_⊕_, _⊗_, _⊘_}
 use Rattle.number.specs.Whole.{Whole, signed}
@@ -18,12 +18,12 @@ use Rattle.matrix.specs.declared.vec.Vec4d.{Vec4d}
 use Rattle.matrix.specs.declared.matrix.Mat4d.{Mat4d}
 use Rattle.matrix.specs.Constants.{positiveZero, one}
 use Rattle.matrix.specs.Vec.{axis, axis4, dot, dot4, vec3, vec4}
-use Rattle.matrix.specs.Matrix.{entry, matrix, sumFrom, timesColumn, product, transpose, determinant3}
+use Rattle.matrix.specs.Matrix.{entry, matrix, product, transpose, determinant3}
 use Rattle.matrix.specs.Transform as Transform
 use Rattle.matrix.specs.Transform.{column, moved, direction, affine, divisor, homogeneous}
 use Rattle.matrix.specs.Placement.{WholeVec, WholeVec4, WholeMatrix, Within, PlacementWithin}
-use Rattle.matrix.specs.Placement.{dotℤ, dot4ℤ, columnℤ, turnedℤ, movedℤ, productℤ, transposeℤ, determinantℤ}
-use Rattle.matrix.proofs.QuarterTurns.{three, four, turn-size, upper-size, moved-last}
+use Rattle.matrix.specs.Placement.{dotℤ, dot4ℤ, columnℤ, turnedℤ, movedℤ, productℤ}
+use Rattle.matrix.proofs.QuarterTurns.{transposeℤ, determinantℤ, three, four, turn-size, upper-size, moved-last}
 use Rattle.matrix.proofs.Signs.{flip, times-unit}
 
 -- ---- the numbers 0 and 1
@@ -79,7 +79,7 @@ module _ {a b : ℕ} (l : a * b + a * b + a * b ≤ 2 ^ 53) (x y : ℕ → Float
       term : (i : ℕ) → i < 3 → Fit (x i ⊗ y i) (p i *ℤ q i) (a * b)
       term i h = fit-times (X i h) (Y i h) (omega arith)
 
--- of four; also where the sum starts from zero
+-- of four
 module _ {a b : ℕ} (l : a * b * 4 ≤ 2 ^ 53) (x y : ℕ → Float) (p q : ℕ → ℤ)
     (X : (i : ℕ) → i < 4 → Fit (x i) (p i) a) (Y : (i : ℕ) → i < 4 → Fit (y i) (q i) b) where
   term : (i : ℕ) → i < 4 → Fit (x i ⊗ y i) (p i *ℤ q i) (a * b)
@@ -87,17 +87,6 @@ module _ {a b : ℕ} (l : a * b * 4 ≤ 2 ^ 53) (x y : ℕ → Float) (p q : ℕ
 
   pub dot4-fit : Fit (dot4 x y) (dot4ℤ p q) (a * b + a * b + a * b + a * b)
   dot4-fit = fit-sum (dot-fit (omega arith) x y p q (λ i h. X i (omega arith)) (λ i h. Y i (omega arith))) (term 3 (lit< tt)) (omega arith)
-
-  pub sum-whole : Whole (sumFrom positiveZero 4 (λ k. x k ⊗ y k)) (dot4ℤ p q)
-  unfolding sumFrom
-  sum-whole =
-      let term' : ℕ → Float = λ k. x k ⊗ y k in
-      let z : Fit positiveZero (pos 0) 0 = record { whole = zero-whole; size = lit≤ tt } in
-      let s1 = fit-sum z (term 0 (lit< tt)) (omega arith) in
-      let s2 = fit-sum s1 (term 1 (lit< tt)) (omega arith) in
-      let s3 = fit-sum s2 (term 2 (lit< tt)) (omega arith) in
-      let s4 = fit-sum s3 (term 3 (lit< tt)) (omega arith) in
-      subst (λ (z : ℤ). Whole (sumFrom positiveZero 4 term') (z +ℤ p 1 *ℤ q 1 +ℤ p 2 *ℤ q 2 +ℤ p 3 *ℤ q 3)) (+ℤ-idl (p 0 *ℤ q 0)) (s4 .whole)
 
 -- ---- vectors and matrices by their numbers
 
@@ -158,9 +147,9 @@ module _ {m : Mat4d} {f : ℕ → ℕ → ℤ} (M : WholeMatrix m f) (F : Placem
 module _ {m n : Mat4d} {f g : ℕ → ℕ → ℤ} (M : WholeMatrix m f) (F : PlacementWithin wide f) (N : WholeMatrix n g)
     (G : PlacementWithin wide g) where
   pub product-whole : WholeMatrix (product m n) (productℤ f g)
-  unfolding product timesColumn
-  product-whole = whole-matrix (λ i j. timesColumn (vec4 (entry m i)) n j) (λ i j h k.
-      sum-whole (lit≤ tt) (entry m i) (λ k. entry n k j) (f i) (columnℤ g j) (λ k l. entry-fit M F i k h l) (λ k' l. entry-fit N G k' j l k))
+  unfolding product
+  product-whole = whole-matrix (λ i j. dot4 (entry m i) (λ k. entry n k j)) (λ i j h k.
+      dot4-fit (lit≤ tt) (entry m i) (λ k. entry n k j) (f i) (columnℤ g j) (λ k l. entry-fit M F i k h l) (λ k' l. entry-fit N G k' j l k) .whole)
 
 pub transpose-whole : {m : Mat4d} {f : ℕ → ℕ → ℤ} → WholeMatrix m f → WholeMatrix (transpose m) (transposeℤ f)
 transpose-whole {m} M = whole-matrix (λ i j. entry m j i) (λ i j h k. M .at j i k h)

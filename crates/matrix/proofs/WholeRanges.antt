@@ -18,10 +18,10 @@ use Rattle.number.proofs.Formula.{Fit, fit-sum, fit-minus, fit-times}
 use Rattle.matrix.specs.declared.matrix.Mat4d.{Mat4d}
 use Rattle.matrix.specs.declared.range.Range3d.{Range3d}
 use Rattle.matrix.specs.Vec.{axis}
-use Rattle.matrix.specs.Matrix.{entry, sumFrom}
+use Rattle.matrix.specs.Matrix.{entry}
 use Rattle.matrix.specs.Transform.{column}
 use Rattle.matrix.specs.Range as Range
-use Rattle.matrix.specs.Range.{emptyAlong, isEmpty, union, size, reach}
+use Rattle.matrix.specs.Range.{sumFrom, emptyAlong, isEmpty, union, size, reach}
 use Rattle.matrix.specs.Placement.{WholeVec, WholeRange, WholeMatrix, Within, NonEmpty, PlacementWithin, columnℤ, movedℤ}
 use Rattle.matrix.specs.Placement.{smaller, larger, pickedOf, cornerℤ, placedCorner, placedLow, placedHigh}
 use Rattle.matrix.proofs.QuarterTurns.{three, only, sum-only, Single, source, moved-is, widen-placement}

@@ -12,7 +12,7 @@ use Rattle.matrix.specs.declared.matrix.Mat4d.{Mat4d}
 use Rattle.matrix.specs.declared.inverse.Inverted.{Inverted}
 use Rattle.matrix.specs.declared.inverse.Inverted.the-variants.{Matrix, Singular}
 use Rattle.matrix.specs.Constants.{one, singularDeterminant}
-use Rattle.matrix.specs.Vec.{axis4, dot4}
+use Rattle.matrix.specs.Vec.{axis4, vec4, dot4}
 use Rattle.matrix.specs.Matrix.{entry, matrix}
 
 -- ---- the determinant of three rows of three, e r c at row r and column c
@@ -53,6 +53,10 @@ cofactor m i j = columnCofactor j (λ r c. entry m r (without j c)) i
 abbrev pub beside : Vec4d → Vec4d → Vec4d → ℕ → ℕ → Float
 beside p q s r c = at (axis4 p r ∷ axis4 q r ∷ axis4 s r ∷ []) c
 
+-- of a whole column
+abbrev pub cofactors : Mat4d → ℕ → Vec4d
+cofactors m j = vec4 (λ i. cofactor m i j)
+
 -- the cofactors, transposed
 unfoldable pub adjugate : Mat4d → Mat4d
 adjugate m = matrix (λ i j. cofactor m j i)
@@ -67,9 +71,12 @@ abbrev pub scaled : Mat4d → Float → Mat4d
 scaled m k = matrix (λ i j. entry m i j ⊗ k)
 
 -- "`inverse_above` accepts only if |det| > epsilon", so that "A NaN determinant is refused"; the adjugate is then multiplied by one rounded reciprocal
+unfoldable pub over : Float → Float → Mat4d → Inverted
+over epsilon det adjugate = unless (lt epsilon (absOf det)) Singular (Matrix (scaled adjugate (one ⊘ det)))
+
 unfoldable pub inverseAbove : Float → Mat4d → Inverted
-unfolding determinant adjugate
-inverseAbove epsilon m = unless (lt epsilon (absOf (determinant m))) Singular (Matrix (scaled (adjugate m) (one ⊘ determinant m)))
+unfolding determinant adjugate over
+inverseAbove epsilon m = over epsilon (determinant m) (adjugate m)
 
 -- "1e-12 for `inverse`"
 abbrev pub inverse : Mat4d → Inverted

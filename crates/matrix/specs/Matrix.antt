@@ -1,16 +1,15 @@
 -- Matrices of four rows and four columns for row vectors, as Gf's documentation has them. Definitions only.
-use Prim.Native.Nat.{ℕ, zero, suc, _+_, _*_, _%_}
+use Prim.Native.Nat.{ℕ, _+_, _*_, _%_}
 use mathlib.Core.Bool.{Bool, cond}
-use mathlib.Core.List.{List, [], _∷_, _++_}
+use mathlib.Core.List.{List, _++_}
 use lib.Dec.{eqb}
 use lib.Ieee.{Float, lt}
 use Rattle.number.specs.Arithmetic.{_⊕_, _⊖_, _⊗_}
 use Rattle.number.specs.Slice.{at}
 use Rattle.matrix.specs.declared.vec.Vec3d.{Vec3d}
-use Rattle.matrix.specs.declared.vec.Vec4d.{Vec4d}
 use Rattle.matrix.specs.declared.matrix.Mat4d.{Mat4d}
 use Rattle.matrix.specs.Constants.{positiveZero, one}
-use Rattle.matrix.specs.Vec.{coordinates4, axis4, vec3, vec4}
+use Rattle.matrix.specs.Vec.{coordinates4, vec3, vec4, dot4}
 
 -- ---- its numbers, "matrices row by row"
 
@@ -38,20 +37,9 @@ translation m = vec3 (entry m 3)
 
 -- ---- product and transpose
 
--- s + f 0 + f 1 + .. of n terms, from left to right
-unfoldable pub sumFrom : Float → ℕ → (ℕ → Float) → Float
-sumFrom s zero f = s
-sumFrom s (suc n) f = sumFrom s n f ⊕ f n
-
--- the row v times column j of m, added up from +0
-unfoldable pub timesColumn : Vec4d → Mat4d → ℕ → Float
-unfolding sumFrom
-timesColumn v m j = sumFrom positiveZero 4 (λ k. axis4 v k ⊗ entry m k j)
-
 -- at row i and column j the row i of a times the column j of b
 unfoldable pub product : Mat4d → Mat4d → Mat4d
-unfolding timesColumn
-product a b = matrix (λ i j. timesColumn (vec4 (entry a i)) b j)
+product a b = matrix (λ i j. dot4 (entry a i) (λ k. entry b k j))
 
 abbrev pub transpose : Mat4d → Mat4d
 transpose m = matrix (λ i j. entry m j i)

@@ -4,7 +4,7 @@ use mathlib.Core.Path.{_≡_}
 use Prim.Native.Nat.{ℕ, zero, suc, _+_, _/_, _%_, _^_, _≤_, _<_}
 use mathlib.Core.Bool.{cond}
 use lib.Dec.{eqb}
-use lib.IntN.{ℤ, pos, negℤ, natAbs, _+ℤ_, _-ℤ_, _*ℤ_}
+use lib.IntN.{ℤ, pos, natAbs, _+ℤ_, _*ℤ_}
 use lib.Signed.{ltZ, _≤ℤ_}
 use Rattle.number.specs.Whole.{Whole}
 use Rattle.matrix.specs.declared.vec.Vec3d.{Vec3d}
@@ -60,19 +60,6 @@ movedℤ f p j = turnedℤ f p j +ℤ f 3 j
 -- at row i and column j the row i of f times the column j of g
 abbrev pub productℤ : (ℕ → ℕ → ℤ) → (ℕ → ℕ → ℤ) → ℕ → ℕ → ℤ
 productℤ f g i j = dot4ℤ (f i) (columnℤ g j)
-
-abbrev pub transposeℤ : (ℕ → ℕ → ℤ) → ℕ → ℕ → ℤ
-transposeℤ f i j = f j i
-
--- the rule of Sarrus, for the upper three by three
-abbrev pub determinantℤ : (ℕ → ℕ → ℤ) → ℤ
-determinantℤ f =
-    f 0 0 *ℤ f 1 1 *ℤ f 2 2 +ℤ f 0 1 *ℤ f 1 2 *ℤ f 2 0 +ℤ f 0 2 *ℤ f 1 0 *ℤ f 2 1
-    -ℤ f 0 0 *ℤ f 1 2 *ℤ f 2 1 -ℤ f 0 1 *ℤ f 1 0 *ℤ f 2 2 -ℤ f 0 2 *ℤ f 1 1 *ℤ f 2 0
-
--- what undoes a placement: its three by three transposed, the translation turned back and negated, the same last column
-abbrev pub inverseℤ : (ℕ → ℕ → ℤ) → ℕ → ℕ → ℤ
-inverseℤ f i j = cond (eqb j 3) (f i 3) (cond (eqb i 3) (negℤ (turnedℤ (transposeℤ f) (f 3) j)) (f j i))
 
 -- ---- quarter-turn placements
 

@@ -11,7 +11,7 @@ use Rattle.matrix.specs.declared.matrix.Mat4d.{Mat4d}
 use Rattle.matrix.specs.declared.range.Range3d.{Range3d}
 use Rattle.matrix.specs.Constants.{positiveZero, half, largest32}
 use Rattle.matrix.specs.Vec.{coordinates, axis, vec3, sum, difference, multiple, least, greatest}
-use Rattle.matrix.specs.Matrix.{entry, sumFrom}
+use Rattle.matrix.specs.Matrix.{entry}
 use Rattle.matrix.specs.Transform.{column}
 
 -- ---- its numbers, "range 6 (min, max)"
@@ -68,17 +68,24 @@ distanceSquared r p =
 
 -- ---- a range through a matrix, which is taken to be affine
 
+-- s + f 0 + f 1 + .. of n terms, from left to right
+unfoldable pub sumFrom : Float → ℕ → (ℕ → Float) → Float
+sumFrom s zero f = s
+sumFrom s (suc n) f = sumFrom s n f ⊕ f n
+
 -- Along one axis, of which the column of the matrix and the translation are given: each axis i of the range adds the least, or the greatest, of what
 -- the matrix makes of its two bounds.
 unfoldable pub reach : (Float → Float → Float) → Range3d → Vec3d → Float → Float
 unfolding sumFrom
 reach pick r column from = sumFrom from 3 (λ i. pick (axis (r .min) i ⊗ axis column i) (axis (r .max) i ⊗ axis column i))
 
+abbrev pub reached : (Float → Float → Float) → Range3d → Mat4d → Vec3d
+reached pick r m = vec3 (λ j. reach pick r (column m j) (entry m 3 j))
+
 -- an empty range stays as it is
 unfoldable pub transformed : Range3d → Mat4d → Range3d
 unfolding isEmpty reach
-transformed r m =
-    cond (isEmpty r) r (range (vec3 (λ j. reach minOf r (column m j) (entry m 3 j))) (vec3 (λ j. reach maxOf r (column m j) (entry m 3 j))))
+transformed r m = cond (isEmpty r) r (range (reached minOf r m) (reached maxOf r m))
 
 -- ---- corners
 

@@ -81,7 +81,11 @@ cross u v = record {
 unfoldable pub lengthOf : Vec3d → Float
 lengthOf v = sqrtOf binary64 (dot v v)
 
+-- a vector of that length, scaled to length 1
+abbrev pub unit : Vec3d → Float → Vec3d
+unit v length = multiple v (one ⊘ maxOf length minLength)
+
 -- "`normalize` multiplies by 1 divided by the larger of length and 1e-10. Length zero or NaN therefore uses 1e-10"
 unfoldable pub normalized : Vec3d → Vec3d
 unfolding lengthOf
-normalized v = multiple v (one ⊘ maxOf (lengthOf v) minLength)
+normalized v = unit v (lengthOf v)

@@ -1,7 +1,8 @@
 // The inverse of a matrix by its cofactors.
 ghost use mathlib.Core.Path.{_≡_};
-ghost use Rattle.matrix.specs.Vec.{vec4};
-ghost use Rattle.matrix.specs.Inverse.{beside, columnCofactor, adjugate, scaled, inverseAbove, inverse};
+ghost use Rattle.matrix.specs.Vec.{vec4, dot4};
+ghost use Rattle.matrix.specs.Matrix.{entry};
+ghost use Rattle.matrix.specs.Inverse.{beside, columnCofactor, cofactors, adjugate, scaled, over, inverseAbove, inverse};
 use crate::matrix::Mat4d;
 use crate::vec::Vec4d;
 use number::order::abs;
@@ -48,39 +49,54 @@ fn turned_cofactors(p: Vec4d, q: Vec4d, s: Vec4d) -> Vec4d
 }
 
 impl Mat4d {
+    // The cofactors of each column, which are the rows of the adjugate.
+    pub(crate) fn cofactors0(self) -> Vec4d
+        ensures { λ r. ⌜ r ≡ cofactors self 0 ⌝ }
+    {
+        let columns = self.transpose();
+        cofactors(columns.r1, columns.r2, columns.r3)
+    }
+
+    pub(crate) fn cofactors1(self) -> Vec4d
+        ensures { λ r. ⌜ r ≡ cofactors self 1 ⌝ }
+    {
+        let columns = self.transpose();
+        turned_cofactors(columns.r0, columns.r2, columns.r3)
+    }
+
+    pub(crate) fn cofactors2(self) -> Vec4d
+        ensures { λ r. ⌜ r ≡ cofactors self 2 ⌝ }
+    {
+        let columns = self.transpose();
+        cofactors(columns.r0, columns.r1, columns.r3)
+    }
+
+    pub(crate) fn cofactors3(self) -> Vec4d
+        ensures { λ r. ⌜ r ≡ cofactors self 3 ⌝ }
+    {
+        let columns = self.transpose();
+        turned_cofactors(columns.r0, columns.r1, columns.r2)
+    }
+
     fn adjugate(self) -> Mat4d
         ensures { λ r. ⌜ r ≡ adjugate self ⌝ }
     {
-        let c0 = Vec4d {
-            x: self.r0.x,
-            y: self.r1.x,
-            z: self.r2.x,
-            w: self.r3.x,
-        };
-        let c1 = Vec4d {
-            x: self.r0.y,
-            y: self.r1.y,
-            z: self.r2.y,
-            w: self.r3.y,
-        };
-        let c2 = Vec4d {
-            x: self.r0.z,
-            y: self.r1.z,
-            z: self.r2.z,
-            w: self.r3.z,
-        };
-        let c3 = Vec4d {
-            x: self.r0.w,
-            y: self.r1.w,
-            z: self.r2.w,
-            w: self.r3.w,
-        };
         Mat4d {
-            r0: cofactors(c1, c2, c3),
-            r1: turned_cofactors(c0, c2, c3),
-            r2: cofactors(c0, c1, c3),
-            r3: turned_cofactors(c0, c1, c2),
+            r0: self.cofactors0(),
+            r1: self.cofactors1(),
+            r2: self.cofactors2(),
+            r3: self.cofactors3(),
         }
+    }
+
+    // The determinant: the first row times its cofactors, which are the first column of the adjugate.
+    pub(crate) fn determinant_by(self, adjugate: Mat4d) -> f64
+        ensures { λ r. ⌜ r ≡ dot4 (entry self 0) (λ i. entry adjugate i 0) ⌝ }
+    {
+        self.r0.x * adjugate.r0.x
+            + self.r0.y * adjugate.r1.x
+            + self.r0.z * adjugate.r2.x
+            + self.r0.w * adjugate.r3.x
     }
 
     fn scaled(self, factor: f64) -> Mat4d
@@ -94,19 +110,27 @@ impl Mat4d {
         }
     }
 
+    // An adjugate over its determinant, where that is larger than epsilon in size. The NaN has a test of its own, since
+    // the one in `abs` then goes.
+    pub(crate) fn over(self, det: f64, epsilon: f64) -> Inverted
+        ensures { λ r. ⌜ r ≡ over epsilon det self ⌝ }
+    {
+        if det != det {
+            return Inverted::Singular;
+        }
+        if abs(det) > epsilon {
+            return Inverted::Matrix(self.scaled(1.0 / det));
+        }
+        Inverted::Singular
+    }
+
     // The inverse where the determinant is larger than epsilon in size.
     pub fn inverse_above(self, epsilon: f64) -> Inverted
         ensures { λ r. ⌜ r ≡ inverseAbove epsilon self ⌝ }
     {
-        let inv = self.adjugate();
-        let det = self.r0.x * inv.r0.x
-            + self.r0.y * inv.r1.x
-            + self.r0.z * inv.r2.x
-            + self.r0.w * inv.r3.x;
-        if abs(det) > epsilon {
-            return Inverted::Matrix(inv.scaled(1.0 / det));
-        }
-        Inverted::Singular
+        let adjugate = self.adjugate();
+        let det = self.determinant_by(adjugate);
+        adjugate.over(det, epsilon)
     }
 
     pub fn inverse(self) -> Inverted

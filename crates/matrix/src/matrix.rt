@@ -2,8 +2,7 @@
 // the last row is the translation. The number at row i and column j is the number i * 4 + j of the record.
 ghost use mathlib.Core.Path.{_≡_};
 ghost use Prim.Native.Nat.{_+_, _≤_};
-ghost use Rattle.matrix.specs.Vec.{vec4};
-ghost use Rattle.matrix.specs.Matrix.{matrixOf, entries, identity, timesColumn, product, transpose, determinant3, rightHanded, translation};
+ghost use Rattle.matrix.specs.Matrix.{matrixOf, entries, identity, product, transpose, determinant3, rightHanded, translation};
 ghost use Rattle.matrix.specs.Transform.{direction, affine, divisor, transformed, homogeneous};
 ghost use Rattle.number.specs.Slice.{at, stored};
 use crate::vec::Vec3d;
@@ -62,26 +61,15 @@ impl Mat4d {
         Mat4d::IDENTITY
     }
 
-    // A row of a product: the row v of the left factor times each column of this one.
-    fn product_row(self, v: Vec4d) -> Vec4d
-        ensures { λ r. ⌜ r ≡ vec4 (timesColumn v self) ⌝ }
-    {
-        Vec4d {
-            x: 0.0 + v.x * self.r0.x + v.y * self.r1.x + v.z * self.r2.x + v.w * self.r3.x,
-            y: 0.0 + v.x * self.r0.y + v.y * self.r1.y + v.z * self.r2.y + v.w * self.r3.y,
-            z: 0.0 + v.x * self.r0.z + v.y * self.r1.z + v.z * self.r2.z + v.w * self.r3.z,
-            w: 0.0 + v.x * self.r0.w + v.y * self.r1.w + v.z * self.r2.w + v.w * self.r3.w,
-        }
-    }
-
+    // Each row of the left factor goes through the right one.
     pub fn product(self, other: Mat4d) -> Mat4d
         ensures { λ r. ⌜ r ≡ product self other ⌝ }
     {
         Mat4d {
-            r0: other.product_row(self.r0),
-            r1: other.product_row(self.r1),
-            r2: other.product_row(self.r2),
-            r3: other.product_row(self.r3),
+            r0: other.transform_homogeneous(self.r0),
+            r1: other.transform_homogeneous(self.r1),
+            r2: other.transform_homogeneous(self.r2),
+            r3: other.transform_homogeneous(self.r3),
         }
     }
 

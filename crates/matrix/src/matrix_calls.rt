@@ -1,8 +1,10 @@
-// The operations on matrices, over lent slices.
+// The operations on matrices, over lent slices. Product and inverse go row by row: a large function of whole matrices is called,
+// and copies them.
 ghost use mathlib.Core.Path.{_≡_};
 ghost use Rattle.number.specs.Answer.{reply, scalarOf, verdictOf};
 ghost use Rattle.matrix.specs.Calls.{productCall, transposeCall, inverseCall, transformCall, affineCall, homogeneousCall, directionCall, determinantCall, rightHandedCall};
 use crate::inverse::Inverted;
+use crate::inverse::SINGULAR_DETERMINANT;
 use crate::matrix::Mat4d;
 use crate::vec::Vec3d;
 use crate::vec::Vec4d;
@@ -24,7 +26,14 @@ pub fn product(a: &[f64], b: &[f64], out: &mut [f64]) -> Written
     if out.len() != 16 {
         return Written::Refused(Refusal::OutputLength);
     }
-    Mat4d::load(a).product(Mat4d::load(b)).store(out);
+    let right = Mat4d::load(b);
+    let product = Mat4d {
+        r0: right.transform_homogeneous(Vec4d::load_at(a, 0)),
+        r1: right.transform_homogeneous(Vec4d::load_at(a, 4)),
+        r2: right.transform_homogeneous(Vec4d::load_at(a, 8)),
+        r3: right.transform_homogeneous(Vec4d::load_at(a, 12)),
+    };
+    product.store(out);
     Written::Done
 }
 
@@ -52,7 +61,15 @@ pub fn inverse(m: &[f64], out: &mut [f64]) -> Written
     if out.len() != 16 {
         return Written::Refused(Refusal::OutputLength);
     }
-    let Inverted::Matrix(inverse) = Mat4d::load(m).inverse() else {
+    let matrix = Mat4d::load(m);
+    let adjugate = Mat4d {
+        r0: matrix.cofactors0(),
+        r1: matrix.cofactors1(),
+        r2: matrix.cofactors2(),
+        r3: matrix.cofactors3(),
+    };
+    let det = matrix.determinant_by(adjugate);
+    let Inverted::Matrix(inverse) = adjugate.over(det, SINGULAR_DETERMINANT) else {
         return Written::Refused(Refusal::Singular);
     };
     inverse.store(out);

@@ -1,11 +1,14 @@
 // Boxes along the axes, each from a least to a greatest corner.
 ghost use mathlib.Core.Path.{_≡_};
 ghost use mathlib.Core.Bool.{cond};
-ghost use Rattle.matrix.specs.Range.{range, rangeOf, bounds, empty, isEmpty, union, intersection, size, midpoint, along, distanceSquared, reach, transformed, corner, corners};
+ghost use Rattle.matrix.specs.Vec.{axis4, vec3};
+ghost use Rattle.matrix.specs.Range.{range, rangeOf, bounds, empty, isEmpty, union, intersection, size, midpoint, along, distanceSquared, reach, reached, transformed, corner, corners};
+ghost use Rattle.matrix.specs.Matrix.{product};
 ghost use Rattle.number.specs.Arithmetic.{minOf, maxOf};
 ghost use Rattle.number.specs.Slice.{stored};
 use crate::matrix::Mat4d;
 use crate::vec::Vec3d;
+use crate::vec::Vec4d;
 use number::order;
 use number::slice;
 use number::slice::at;
@@ -120,23 +123,46 @@ impl Range3d {
             + along(p.z, self.min.z, self.max.z)
     }
 
-    // The least that the range comes to along an axis, whose column of a matrix and translation are given.
-    fn lowest(self, column: Vec3d, from: f64) -> f64
-        ensures { λ r. ⌜ r ≡ reach minOf self column from ⌝ }
+    // The least that the range comes to along an axis, whose column of a matrix is given, the translation its last number.
+    fn lowest(self, column: Vec4d) -> f64
+        ensures { λ r. ⌜ r ≡ reach minOf self (vec3 (axis4 column)) (axis4 column 3) ⌝ }
     {
-        from
+        column.w
             + order::min(self.min.x * column.x, self.max.x * column.x)
             + order::min(self.min.y * column.y, self.max.y * column.y)
             + order::min(self.min.z * column.z, self.max.z * column.z)
     }
 
-    fn highest(self, column: Vec3d, from: f64) -> f64
-        ensures { λ r. ⌜ r ≡ reach maxOf self column from ⌝ }
+    fn highest(self, column: Vec4d) -> f64
+        ensures { λ r. ⌜ r ≡ reach maxOf self (vec3 (axis4 column)) (axis4 column 3) ⌝ }
     {
-        from
+        column.w
             + order::max(self.min.x * column.x, self.max.x * column.x)
             + order::max(self.min.y * column.y, self.max.y * column.y)
             + order::max(self.min.z * column.z, self.max.z * column.z)
+    }
+
+    // The corners of the range that holds this one once the matrix is applied to it.
+    pub(crate) fn transformed_min(self, matrix: Mat4d) -> Vec3d
+        ensures { λ r. ⌜ r ≡ reached minOf self matrix ⌝ }
+    {
+        let columns = matrix.transpose();
+        Vec3d {
+            x: self.lowest(columns.r0),
+            y: self.lowest(columns.r1),
+            z: self.lowest(columns.r2),
+        }
+    }
+
+    pub(crate) fn transformed_max(self, matrix: Mat4d) -> Vec3d
+        ensures { λ r. ⌜ r ≡ reached maxOf self matrix ⌝ }
+    {
+        let columns = matrix.transpose();
+        Vec3d {
+            x: self.highest(columns.r0),
+            y: self.highest(columns.r1),
+            z: self.highest(columns.r2),
+        }
     }
 
     // The range that holds this one once the matrix is applied to it.
@@ -146,32 +172,28 @@ impl Range3d {
         if self.is_empty() {
             return self;
         }
-        let x = Vec3d {
-            x: matrix.r0.x,
-            y: matrix.r1.x,
-            z: matrix.r2.x,
-        };
-        let y = Vec3d {
-            x: matrix.r0.y,
-            y: matrix.r1.y,
-            z: matrix.r2.y,
-        };
-        let z = Vec3d {
-            x: matrix.r0.z,
-            y: matrix.r1.z,
-            z: matrix.r2.z,
+        Range3d {
+            min: self.transformed_min(matrix),
+            max: self.transformed_max(matrix),
+        }
+    }
+
+    // The same of a product of two matrices, of which only what the range needs is computed.
+    pub fn transformed_by_product(self, left: Mat4d, right: Mat4d) -> Range3d
+        ensures { λ r. ⌜ r ≡ transformed self (product left right) ⌝ }
+    {
+        if self.is_empty() {
+            return self;
+        }
+        let matrix = Mat4d {
+            r0: right.transform_homogeneous(left.r0),
+            r1: right.transform_homogeneous(left.r1),
+            r2: right.transform_homogeneous(left.r2),
+            r3: right.transform_homogeneous(left.r3),
         };
         Range3d {
-            min: Vec3d {
-                x: self.lowest(x, matrix.r3.x),
-                y: self.lowest(y, matrix.r3.y),
-                z: self.lowest(z, matrix.r3.z),
-            },
-            max: Vec3d {
-                x: self.highest(x, matrix.r3.x),
-                y: self.highest(y, matrix.r3.y),
-                z: self.highest(z, matrix.r3.z),
-            },
+            min: self.transformed_min(matrix),
+            max: self.transformed_max(matrix),
         }
     }
 

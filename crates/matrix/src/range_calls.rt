@@ -97,7 +97,17 @@ pub fn transformed(range: &[f64], m: &[f64], out: &mut [f64]) -> Written
     if out.len() != 6 {
         return Written::Refused(Refusal::OutputLength);
     }
-    Range3d::load(range).transformed(Mat4d::load(m)).store(out);
+    let given = Range3d::load(range);
+    let matrix = Mat4d::load(m);
+    if given.is_empty() {
+        given.store(out);
+        return Written::Done;
+    }
+    let moved = Range3d {
+        min: given.transformed_min(matrix),
+        max: given.transformed_max(matrix),
+    };
+    moved.store(out);
     Written::Done
 }
 

@@ -1,6 +1,6 @@
 // Row vectors of three numbers, and of four where a point is homogeneous.
 ghost use mathlib.Core.Path.{_≡_};
-ghost use Rattle.matrix.specs.Vec.{sum, difference, multiple, multiple4, dot, cross, lengthOf, normalized, least, greatest, vec3, vec4, vec3Of, vec4Of, coordinates, coordinates4};
+ghost use Rattle.matrix.specs.Vec.{sum, difference, multiple, multiple4, dot, cross, lengthOf, unit, normalized, least, greatest, vec3, vec4, vec3Of, vec4Of, coordinates, coordinates4};
 ghost use Prim.Native.Nat.{_+_};
 ghost use Rattle.number.specs.Slice.{at, stored};
 use number::order;
@@ -99,10 +99,17 @@ impl Vec3d {
         sqrt(self.dot(self))
     }
 
+    // Scaled to length 1, by the length that it has.
+    pub fn unit(self, length: f64) -> Vec3d
+        ensures { λ r. ⌜ r ≡ unit self length ⌝ }
+    {
+        self.scale(1.0 / order::max(length, MIN_VECTOR_LENGTH))
+    }
+
     pub fn normalize(self) -> Vec3d
         ensures { λ r. ⌜ r ≡ normalized self ⌝ }
     {
-        self.scale(1.0 / order::max(self.length(), MIN_VECTOR_LENGTH))
+        self.unit(self.length())
     }
 
     // Three numbers of a slice, the first of them at a place.

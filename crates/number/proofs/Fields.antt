@@ -2,17 +2,17 @@
 use mathlib.Core.Logic.{_⊎_, inl, inr}
 use mathlib.Core.Path.{_≡_, refl, sym, ap, _∙_, subst}
 use Prim.Native.Nat.{ℕ, zero, suc, _+_, _-_, _*_, _/_, _%_, _^_, _≤_, _<_}
-use native.Mathlib.Nat.{mul-one, mul-pos, mul-div-cancel, mul-mod-left, mod-lt, mod-eq-of-lt, mod-mod-of-dvd, dvd-mul-right, div-add-mod', div-lt-iff-lt-mul, lt-of-lt-of-le, le-add-right, eq-or-lt-of-le, zero-lt-suc}
+use native.Mathlib.Nat.{mul-one, mul-assoc, mul-pos, mul-div-cancel, mul-mod-left, mod-lt, mod-eq-of-lt, mod-mod-of-dvd, dvd-mul-right, div-add-mod', div-lt-iff-lt-mul, lt-of-lt-of-le, le-add-right, eq-or-lt-of-le, zero-lt-suc}
 use native.Mathlib.Omega.{arith}
 use mathlib.Core.Bool.{Bool, true, false, not, cond}
 use lib.Arith.{lt→nleb}
 use lib.Dec.{T, leb, eqb, eqb→eq, nleb→lt, nltb→le}
-use lib.Pow.{pow-pos}
-use lib.Ieee.{Float, nan, inf, fin, Format, prec, low, odd, hid, ones, top, isNan, ofFields, ofBits}
+use lib.Pow.{pow-pos, pow-add}
+use lib.Ieee.{nan, inf, Format, binary64, prec, low, odd, hid, ones, top, isNan, ofFields, ofBits}
 use lib.Ieee.Bits.{is-true, is-false, nanBits-is, nanBits-above}
 use lib.Ieee.Exact.{HasValue, odd-sign}
 use lib.Ieee.Fits.{eq→eqb}
-use Rattle.number.specs.Bits.{fieldUnits, unitsOf}
+use Rattle.number.specs.Bits.{Normalised, fieldUnits, unitsOf}
 
 fields-value : (f : Format) (s : Bool) (x t : ℕ) → x < ones f → HasValue (ofFields f s x t) s (fieldUnits f x t) (2 ^ low f)
 unfolding ofFields
@@ -71,3 +71,18 @@ signed f b n = go (leb (top f) b) (nleb→lt (top f) b)
     go : (z : Bool) → (T (not z) → b < top f) → z ≡ true
     go true h = refl
     go false h = absurd (n (sym (mod-eq-of-lt (h tt))))
+
+-- ---- with a field above 0 the significand has all its digits
+pub normal : (b a x : ℕ) → a ≡ b % 2 ^ 52 → x ≡ b / 2 ^ 52 → 0 < x → x < 2047 → Normalised b (record { significand = 2 ^ 52 + a; scale = x + 51 })
+normal b a x e f p l = record {
+  leading = omega arith;
+  digits = omega (arith, mod-lt b (pow-pos 52));
+  scale = omega arith;
+  value = units x p ∙ ap (λ (i : ℕ). fieldUnits binary64 x i * 2 ^ 52) e ∙ ap (λ (i : ℕ). fieldUnits binary64 i (b % 2 ^ 52) * 2 ^ 52) f;
+}
+  where
+    units : (i : ℕ) → 0 < i → (2 ^ 52 + a) * 2 ^ (i + 51) ≡ fieldUnits binary64 i a * 2 ^ 52
+    units zero q = absurd (omega arith)
+    units (suc i) q =
+        ap (λ (j : ℕ). (2 ^ 52 + a) * 2 ^ j) {x = suc i + 51} {y = i + 52} (omega arith)
+        ∙ ap (λ (j : ℕ). (2 ^ 52 + a) * j) (pow-add 2 i 52) ∙ sym (mul-assoc (2 ^ 52 + a) (2 ^ i) (2 ^ 52))

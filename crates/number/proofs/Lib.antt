@@ -14,6 +14,7 @@ pub mod Fields
 pub mod Reading
 pub mod WholeRoot
 pub mod RootRounding
+pub mod RootBits
 pub mod NearestRoot
 pub mod SquareRoot
 pub mod Centimetres
@@ -21,4 +22,5 @@ pub mod Refusals
 pub mod Narrowing
 pub mod Patterns
 pub mod Worked
+pub mod Ways
 pub mod Calls

@@ -2,20 +2,19 @@
 -- a significand that rounded up to 2 ^ prec carries into the exponent's field, and what is too large is infinity's pattern.
 -- By reading the value's own bits (`toBits`) and `ofBits-toBits`. Assumes nothing.
 use mathlib.Core.Path.{_≡_, refl, sym, ap, _∙_, subst}
-use mathlib.Core.Logic.{_⊎_, inl, inr}
-use Prim.Native.Nat.{ℕ, zero, suc, _+_, _-_, _*_, _/_, _%_, _^_, _≤_, _<_, min, zero-le}
-use native.Mathlib.Nat.{mul-div-cancel, mul-one, one-mul, mul-assoc, mul-comm, div-one, mul-le-mul-right, mul-le-mul-left, mul-lt-mul-of-pos-right, le-trans, le-of-eq, lt-of-le-of-lt, lt-of-lt-of-le, lt-of-not-le, not-le-of-lt, le-refl, pow-succ', eq-or-lt-of-le, le-of-mul-le-mul-right, lt-of-mul-lt-mul-right, mul-le-mul, mul-lt-mul-of-pos-left}
+use mathlib.Core.Logic.{inl, inr}
+use Prim.Native.Nat.{ℕ, zero, suc, _+_, _-_, _*_, _/_, _^_, _≤_, _<_, min}
+use native.Mathlib.Nat.{mul-div-cancel, mul-one, div-one, mul-le-mul-right, le-trans, le-of-eq, lt-of-le-of-lt, lt-of-lt-of-le, lt-of-not-le, not-le-of-lt, le-refl, pow-succ', eq-or-lt-of-le, le-of-mul-le-mul-right, lt-of-mul-lt-mul-right, mul-le-mul, mul-lt-mul-of-pos-left}
 use native.Mathlib.Decide.{decLt}
 use native.Mathlib.Omega.{arith}
-use mathlib.Core.Bool.{Bool, true, false, not, cond}
-use lib.IntN.{ℤ}
-use lib.Dec.{T, ltb, ltb→lt, nltb→le, lit≤, lit<}
+use mathlib.Core.Bool.{Bool, true, false, cond}
+use lib.Dec.{T, ltb, ltb→lt, lit<}
 use lib.Pow.{pow-add, pow-pos, pow-mono, pow-lt, shl-lt, shl-shr}
-use lib.Ieee.{Float, nan, inf, fin, Format, binary32, binary64, prec, emax, low, up, down, size, odd, units, fits, isNan, hid, ones, top, ofBits, toBits, nanBits}
+use lib.Ieee.{Float, nan, inf, fin, Format, binary32, binary64, prec, emax, low, down, size, odd, units, fits, isNan, hid, ones, top, ofBits, toBits}
 use lib.Ieee.Digits.{size-lt, size-le}
 use lib.Ieee.Fits.{down-pos, odd-fits, inf-fits}
 use lib.Ieee.Exact.{HasValue, units-val}
-use lib.Ieee.Bits.{ofBits-toBits, nanBits-is}
+use lib.Ieee.Bits.{ofBits-toBits}
 
 -- ---- how many digits a number has
 size-gt : (n j : ℕ) → 2 ^ j ≤ n → j < size n

@@ -1,6 +1,6 @@
 -- A pattern is a NaN's where its magnitude, the pattern less its sign's bit, is above infinity's. Assumes nothing.
 use mathlib.Core.Path.{_≡_, refl, sym, ap, _∙_, subst}
-use mathlib.Core.Bool.{Bool, true, false, not}
+use mathlib.Core.Bool.{Bool, true, not}
 use Prim.Native.Nat.{ℕ, _-_, _*_, _%_, _^_, _≤_, _<_}
 use lib.Arith.{le→nltb}
 use lib.Bits.{bitAnd, and-mask}

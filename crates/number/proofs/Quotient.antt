@@ -3,20 +3,19 @@
 -- The idea: such fractions differ by more than 2 ^ -52, and each of the two roundings errs by at most 2 ^ -53.
 use mathlib.Core.Path.{_≡_}
 use mathlib.Core.Logic.{_↔_}
-use Prim.Native.Nat.{ℕ, _+_, _-_, _*_, _/_, _%_, _^_, _≤_, _<_, compare, Ordering, Ordering·lt, Ordering·eq, Ordering·gt}
-use native.Mathlib.Nat.{add-zero, mul-one, zero-mul, one-mul, mul-comm, mul-pos, mod-lt, div-add-mod', div-lt-iff-lt-mul}
+use Prim.Native.Nat.{ℕ, _+_, _-_, _*_, _/_, _^_, _≤_, _<_}
+use native.Mathlib.Nat.{add-zero, mul-one, zero-mul, one-mul, mul-comm, mul-pos, div-lt-iff-lt-mul}
 use native.Mathlib.Nat.{le-trans, le-of-eq, lt-of-le-of-lt, lt-of-not-le, not-le-of-lt}
 use native.Mathlib.Nat.{mul-le-mul-right, mul-le-mul-left, mul-lt-mul-of-pos-right, le-of-mul-le-mul-right}
 use native.Mathlib.Omega.{arith}
 use mathlib.Core.Bool.{Bool, true, false, not}
-use lib.Dec.{T, T-not, isLe, isEq, leb→le, nleb→lt, eqb→eq, lit<, lit≤}
+use lib.Dec.{T, T-not, lit<, lit≤}
 use lib.IntN.{pos}
 use lib.Pow.{pow-pos, pow-mono}
-use lib.Ieee.{Float, binary64, size, nearest, unlike, round, lt, le}
+use lib.Ieee.{Float, binary64, size, unlike, round, lt, le}
 use lib.Ieee.Digits.{size-le}
 use lib.Ieee.Exact.{HasValue}
 use lib.Ieee.Back.{round-whole}
-use lib.Ieee.Nearest.{closest}
 use lib.Ieee.Order.{drop, kept, round-mono}
 use lib.Ieee.Scale.{grid, overflow, round-val, round-same}
 use Rattle.number.specs.Arithmetic.{_⊘_, minOf, maxOf}

@@ -1,17 +1,16 @@
 -- A root that is rounded needs one digit more than the format keeps, and to know whether anything is left: the search may stop there.
 -- With T a power of two, the root of N * T * T lies from T times the whole root r of N to below T times r + 1, and where it is not T * r it rounds
 -- as r and a half does. Assumes nothing.
-use mathlib.Core.Path.{_≡_, refl, sym, ap, _∙_, subst}
-use mathlib.Core.Logic.{_⊎_, inl, inr}
+use mathlib.Core.Path.{_≡_, refl, sym, ap, _∙_}
+use mathlib.Core.Logic.{inl, inr}
 use mathlib.Core.Bool.{Bool, true, false, not, cond}
-use Prim.Native.Nat.{ℕ, zero, suc, _+_, _-_, _*_, _/_, _%_, _^_, _≤_, _<_, compare}
-use native.Mathlib.Nat.{mul-comm, mul-assoc, mul-pos, mul-le-mul-right, mul-lt-mul-of-pos-right, le-trans, le-of-eq, lt-of-lt-of-le, lt-of-le-of-lt, eq-or-lt-of-le, pow-succ', zero-lt-suc, le-div-iff-mul-le, div-lt-iff-lt-mul}
+use Prim.Native.Nat.{ℕ, suc, _+_, _-_, _*_, _^_, _≤_, _<_}
+use native.Mathlib.Nat.{mul-pos, mul-le-mul-right, mul-lt-mul-of-pos-right, le-trans, le-of-eq, lt-of-lt-of-le, lt-of-le-of-lt, eq-or-lt-of-le, pow-succ', zero-lt-suc}
 use native.Mathlib.Omega.{arith}
 use lib.Dec.{T, ltb, ltb→lt, nltb→le}
 use lib.Pow.{pow-pos, pow-add}
-use lib.Ieee.{Float, Format, binary32, binary64, prec, low, nearest, units, round}
-use lib.Ieee.Fits.{nearest-le}
-use lib.Ieee.Nearest.{closest, closest-same, nearest-ge}
+use lib.Ieee.{Format, binary32, binary64, prec, low, units}
+use lib.Ieee.Nearest.{closest, closest-same}
 use Rattle.number.specs.Root.{rootOf, restOf, roundRoot}
 use Rattle.number.proofs.Rounding.{round-at, closest-between}
 use Rattle.number.proofs.WholeRoot.{root-le, root-lt, root-scaled}

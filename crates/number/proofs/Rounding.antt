@@ -2,14 +2,14 @@
 -- Assumes nothing.
 use mathlib.Core.Path.{_≡_, refl, sym, ap, _∙_, subst}
 use Prim.Native.Nat.{ℕ, zero, suc, _+_, _-_, _*_, _/_, _%_, _^_, _≤_, _<_, compare, Ordering, Ordering·lt, Ordering·eq, Ordering·gt}
-use native.Mathlib.Nat.{mul-comm, mul-assoc, mul-pos, le-div-iff-mul-le, div-lt-iff-lt-mul, le-trans, le-of-eq, lt-of-lt-of-le, lt-irrefl, zero-lt-suc, lt-of-le-of-lt, mod-lt, div-add-mod', pow-succ', mul-le-mul-right, one-mul}
+use native.Mathlib.Nat.{le-div-iff-mul-le, div-lt-iff-lt-mul, le-of-eq, lt-of-lt-of-le, zero-lt-suc, mod-lt, div-add-mod', pow-succ', mul-le-mul-right, one-mul}
 use native.Mathlib.Decide.{decLt}
 use native.Mathlib.Omega.{arith}
-use mathlib.Core.Bool.{Bool, true, false, not}
-use lib.Dec.{T, isLe, isEq, eqb, leb→le, le→leb, nleb→lt, eqb→eq, eqb-refl, lit<}
+use mathlib.Core.Bool.{Bool, not}
+use lib.Dec.{T, isLe, isEq, eqb, leb→le, nleb→lt, eqb→eq, eqb-refl, lit<}
 use lib.Arith.{digits-div, digits-mod, lt-of-le-ne}
-use lib.Pow.{pow-pos, pow-add, pow-mono, shl-exact}
-use lib.Ieee.{Float, Format, binary32, binary64, prec, low, size, nearest, units, round}
+use lib.Pow.{pow-pos, pow-mono, shl-exact}
+use lib.Ieee.{Format, binary32, binary64, prec, low, size, nearest, units, round}
 use lib.Ieee.Digits.{size-le}
 use lib.Ieee.Fits.{round-is}
 use lib.Ieee.Nearest.{closest}

@@ -2,7 +2,7 @@
 use mathlib.Core.Path.{_≡_, refl}
 use Prim.Native.Nat.{ℕ}
 use lib.IntN.{pos, negsuc}
-use lib.Ieee.{Float, binary64, ofBits, toBits}
+use lib.Ieee.{binary64, ofBits, toBits}
 use Rattle.number.specs.Grid.{centimetres, placed}
 use Rattle.number.specs.Root.{sqrtOf}
 use Rattle.number.specs.declared.grid.Coordinate.{Coordinate}

@@ -3,7 +3,6 @@ use Prim.Native.Nat.{ℕ, _+_, _*_, _/_}
 use mathlib.Core.Bool.{Bool, true, false, cond, _&&_}
 use mathlib.Core.List.{List, [], _∷_, map}
 use lib.Dec.{leb}
-use lib.IntN.{ℤ, pos}
 use lib.Ieee.{Float, nan, inf, fin, binary64, up, down, ofBits, ofInt}
 use Rattle.number.specs.Arithmetic.{_⊗_}
 use Rattle.number.specs.Answer.{Reply, refuse, write, unless, has, leaving}

@@ -2,7 +2,7 @@
 -- In units of its format's smallest value, 2 ^ -low, a number x is n units, and its root is the root of n * 2 ^ low units.
 use mathlib.Core.Path.{_≡_}
 use Prim.Native.Nat.{ℕ, zero, suc, _+_, _-_, _*_, _/_, _^_, _≤_, _<_}
-use mathlib.Core.Bool.{Bool, true, false, cond}
+use mathlib.Core.Bool.{false, cond}
 use lib.Dec.{T, leb, ltb}
 use lib.Ieee.{Float, nan, inf, fin, Format, low, up, down, size, round, fits}
 use lib.Ieee.Exact.{HasValue}
@@ -46,10 +46,11 @@ pub record NearestRoot (f : Format) (s : ℕ) (y : Float) : Type 0 where
 
 -- ---- the search
 
--- One bit of a search for a root: by (r + b)² = r² + (2 * r + b) * b the bit b fits if what is left, counted in units of b, reaches 2 * r + b.
+-- One bit b of a search for a root, with r the bits found: by (r + b)² = r² + (2 * r + b) * b it fits if what is left, in units of b, reaches 2 * r + b.
+-- With u = 4 * b, trial and left are twice these two, so that the next trial, for b / 2, is whole: 4 * r + b, or 4 * (r + b) + b.
 abbrev pub triedOf : PartialRoot → ℕ → PartialRoot
-triedOf s b =
-    cond (leb (2 * s .root + b) (s .left)) (record { root = s .root + b; left = s .left - (2 * s .root + b) }) (record { root = s .root; left = s .left })
+triedOf s u =
+    cond (leb (s .trial) (s .left)) (record { trial = s .trial - u / 4 + u; left = s .left - s .trial }) (record { trial = s .trial - u / 4; left = s .left })
 
 -- what a search for the whole root of n finds
 pub record Found (n : ℕ) (r : WholeRoot) : Type 0 where

@@ -1,5 +1,7 @@
 // The magnitude of a number, and the smaller and the larger of two.
 ghost use mathlib.Core.Path.{_≡_};
+ghost use mathlib.Core.Bool.{cond};
+ghost use lib.Ieee.{isNan};
 ghost use lib.Ieee.Scale.{finite};
 ghost use Rattle.number.specs.Arithmetic.{absOf, minOf, maxOf};
 
@@ -20,26 +22,32 @@ pub fn is_finite(x: f64) -> bool
     abs(x) < 1.0 / 0.0
 }
 
-pub fn min(x: f64, y: f64) -> f64
-    ensures { λ r. ⌜ r ≡ minOf x y ⌝ }
+// x, or y where x is a NaN: shared by the two below, it costs both together one test.
+fn number_or(x: f64, y: f64) -> f64
+    ensures { λ r. ⌜ r ≡ cond (isNan x) y x ⌝ }
 {
     if x != x {
-        return y;
-    }
-    if y < x {
         return y;
     }
     x
 }
 
+pub fn min(x: f64, y: f64) -> f64
+    ensures { λ r. ⌜ r ≡ minOf x y ⌝ }
+{
+    let first = number_or(x, y);
+    if y < first {
+        return y;
+    }
+    first
+}
+
 pub fn max(x: f64, y: f64) -> f64
     ensures { λ r. ⌜ r ≡ maxOf x y ⌝ }
 {
-    if x != x {
+    let first = number_or(x, y);
+    if first < y {
         return y;
     }
-    if x < y {
-        return y;
-    }
-    x
+    first
 }

@@ -7,25 +7,25 @@ ghost use Rattle.number.specs.Root.{Found, roundRoot, sqrtOf, triedOf};
 use crate::nearest;
 use crate::normalised;
 
-// The bits of a root that are found, and what is left of the number searched.
+// A search for a root. With r the bits found and b the bit to try, trial is 2 * (2 * r + b), and left is twice what is left of the number, in units of b.
 struct PartialRoot {
-    root: u64,
+    trial: u64,
     left: u64,
 }
 
 impl PartialRoot {
-    // One bit more: it is kept if what is left reaches twice the root and the bit. A mask chooses, so that no branch is mispredicted.
-    fn tried(self, bit: u64) -> PartialRoot
-        requires { ⌜ (2 * self .root + bit < 2 ^ 63) × (self .left < 2 ^ 63) ⌝ }
-        ensures { λ r. ⌜ r ≡ triedOf self bit ⌝ }
+    // One bit more, a quarter of step: it is kept if what is left reaches the trial. A mask chooses, so that no branch is mispredicted.
+    fn tried(self, step: u64) -> PartialRoot
+        requires { ⌜ (step ≤ 2 * self .trial) × (self .trial + step < 2 ^ 63) × (self .left < 2 ^ 63) ⌝ }
+        ensures { λ r. ⌜ r ≡ triedOf self step ⌝ }
     {
-        let root = self.root;
+        let trial = self.trial;
         let left = self.left;
-        let trial = 2 * root + bit;
+        let refused = trial - (step >> 2);
         let difference = std::num::wrapping_sub_u64(left, trial);
         let mask = std::num::wrapping_sub_u64(0, difference >> 63);
         PartialRoot {
-            root: root + (bit - (bit & mask)),
+            trial: refused + (step - (step & mask)),
             left: std::num::wrapping_add_u64(difference, trial & mask),
         }
     }
@@ -37,27 +37,39 @@ struct WholeRoot {
     rest: u64,
 }
 
-// The root of number * 2 ^ 53, a bit at a time from 2 ^ 53 down: what is left of that number is left * unit / 2.
+// The root of number * 2 ^ 53, whose first bit is 2 ^ 53, and then a bit at a time: what is left of that number is left * step / 8.
 fn search(number: u64) -> WholeRoot
-    requires { ⌜ number < 2 ^ 55 ⌝ }
+    requires { ⌜ (2 ^ 53 ≤ number) × (number < 2 ^ 55) ⌝ }
     ensures { λ r. ⌜ Found (number * 2 ^ 53) r ⌝ }
 {
-    let mut unit: u64 = 0x0040_0000_0000_0000;
-    let mut root: u64 = 0;
-    let mut left: u64 = number;
-    while 1 < unit {
+    let mut step: u64 = 0x0040_0000_0000_0000;
+    let mut trial: u64 = 0x00a0_0000_0000_0000;
+    let mut left: u64 = 4 * (number - 0x0020_0000_0000_0000);
+    while 2 < step {
         if left == 0 {
-            return WholeRoot { root, rest: 0 };
+            return WholeRoot {
+                root: (trial - (step >> 1)) >> 2,
+                rest: 0,
+            };
         }
-        unit = unit >> 1;
-        let next = PartialRoot { root, left }.tried(unit);
-        root = next.root;
+        let next = PartialRoot { trial, left }.tried(step);
+        step = step >> 1;
+        trial = next.trial;
         left = 2 * next.left;
     }
+    let root = trial >> 2;
     if left == 0 {
         return WholeRoot { root, rest: 0 };
     }
     WholeRoot { root, rest: 1 }
+}
+
+// The root of a number whose bits are less than 2 ^ 26 away from those of 1: half way to them, rounded down.
+fn near_one(magnitude: u64) -> u64
+    requires { ⌜ (0x3fef_ffff_fc00_0000 < magnitude) × (magnitude < 0x3ff0_0000_0400_0000) ⌝ }
+    ensures { λ r. ⌜ ofBits binary64 r ≡ roundRoot binary64 (unitsOf binary64 magnitude * 2 ^ 1074) ⌝ }
+{
+    (0x3ff0_0000_0000_0000 + magnitude) >> 1
 }
 
 // The bits of the rounded root of a finite magnitude above zero.
@@ -65,6 +77,9 @@ fn root_bits(magnitude: u64) -> u64
     requires { ⌜ (0 < magnitude) × (magnitude < 0x7ff0_0000_0000_0000) ⌝ }
     ensures { λ r. ⌜ ofBits binary64 r ≡ roundRoot binary64 (unitsOf binary64 magnitude * 2 ^ 1074) ⌝ }
 {
+    if (0x3fef_ffff_fc00_0000 < magnitude) & (magnitude < 0x3ff0_0000_0400_0000) {
+        return near_one(magnitude);
+    }
     let parts = normalised(magnitude);
     let scale = parts.scale;
     let significand = parts.significand;

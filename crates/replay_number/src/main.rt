@@ -1,7 +1,6 @@
 // Replays answers recorded from Rust. Standard input has records of five words, each of 8 bytes, the
 // lowest first: the operation's code, two inputs, the answer and the status. For each operation the
 // program writes how many of its records the crate `number` agrees with, and how many it read.
-ghost use Prim.Native.Nat.{_<_, _≤_};
 use number::format::from_bits;
 use number::format::from_bits_32;
 use number::format::narrow;
@@ -13,6 +12,8 @@ use number::order::abs;
 use number::order::max;
 use number::order::min;
 use number::root::sqrt;
+use replay::counts::count;
+use replay::words::word;
 
 struct Record {
     code: u64,
@@ -22,39 +23,20 @@ struct Record {
     status: u64,
 }
 
-fn wide(b: u8) -> u64
-    ensures { λ r. ⌜ r < 256 ⌝ }
-{
-    b as u64
+// The next word; past the end 0.
+fn read_word() -> u64 {
+    let mut bytes = [0u8; 8];
+    io::read_full(0, &mut bytes);
+    word(&bytes)
 }
 
-fn pair(low: u8, high: u8) -> u64
-    ensures { λ r. ⌜ r < 65536 ⌝ }
-{
-    wide(low) + wide(high) * 256
-}
-
-// The four bytes from a place on as one number.
-fn half_word(bytes: &[u8; 40], at: usize) -> u64
-    requires { ⌜ at ≤ 36 ⌝ }
-    ensures { λ r. ⌜ r < 4294967296 ⌝ }
-{
-    pair(bytes[at], bytes[at + 1]) + pair(bytes[at + 2], bytes[at + 3]) * 65536
-}
-
-fn word(bytes: &[u8; 40], at: usize) -> u64
-    requires { ⌜ at ≤ 32 ⌝ }
-{
-    half_word(bytes, at) + half_word(bytes, at + 4) * 4294967296
-}
-
-fn record_of(bytes: &[u8; 40]) -> Record {
+fn read_record() -> Record {
     Record {
-        code: word(bytes, 0),
-        x: word(bytes, 8),
-        y: word(bytes, 16),
-        answer: word(bytes, 24),
-        status: word(bytes, 32),
+        code: read_word(),
+        x: read_word(),
+        y: read_word(),
+        answer: read_word(),
+        status: read_word(),
     }
 }
 
@@ -107,24 +89,23 @@ fn agrees(r: Record) -> bool {
     }
 }
 
-// The counts stand at the operations' codes. None wraps: there are fewer records than 2 ^ 64.
-fn count(counts: &mut [u64; 8], code: usize)
-    requires { ⌜ code < 8 ⌝ }
-{
-    counts[code] = std::num::wrapping_add_u64(counts[code], 1);
-}
-
 fn print_difference(place: u64) {
     io::write_all(1, b"record ");
     io::print_decimal(1, place);
     io::write_all(1, b" differs\n");
 }
 
-// Counts a record, and tells its place where it is the operation's first that differs.
-fn replay(r: Record, place: u64, agreed: &mut [u64; 8], read: &mut [u64; 8]) {
+// Replays the next record, and answers whether there was one of a known operation. Tells its place where it
+// is the operation's first that differs. The counts stand at the operations' codes.
+fn replay_next(place: u64, agreed: &mut [u64; 32], read: &mut [u64; 32]) -> bool {
+    let r = read_record();
     let code = r.code as usize;
-    if code == 0 || 7 < code {
-        return;
+    if code == 0 {
+        return false;
+    }
+    if 7 < code {
+        print_difference(place);
+        return false;
     }
     if agrees(r) {
         count(agreed, code);
@@ -132,19 +113,10 @@ fn replay(r: Record, place: u64, agreed: &mut [u64; 8], read: &mut [u64; 8]) {
         print_difference(place);
     }
     count(read, code);
-}
-
-// Replays the next record, and answers whether there was one.
-fn replay_next(place: u64, agreed: &mut [u64; 8], read: &mut [u64; 8]) -> bool {
-    let mut bytes = [0u8; 40];
-    if io::read_full(0, &mut bytes) < 40 {
-        return false;
-    }
-    replay(record_of(&bytes), place, agreed, read);
     true
 }
 
-fn replay_all(agreed: &mut [u64; 8], read: &mut [u64; 8]) {
+fn replay_all(agreed: &mut [u64; 32], read: &mut [u64; 32]) {
     let mut place: u64 = 0;
     while place < u64::MAX && replay_next(place, agreed, read) {
         place += 1;
@@ -160,7 +132,7 @@ fn print_count(name: &[u8], agreed: u64, read: u64) {
     io::write_all(1, b"\n");
 }
 
-fn print_counts(agreed: &[u64; 8], read: &[u64; 8]) {
+fn print_counts(agreed: &[u64; 32], read: &[u64; 32]) {
     print_count(b"sqrt", agreed[1], read[1]);
     print_count(b"abs", agreed[2], read[2]);
     print_count(b"min", agreed[3], read[3]);
@@ -171,8 +143,8 @@ fn print_counts(agreed: &[u64; 8], read: &[u64; 8]) {
 }
 
 fn main() {
-    let mut agreed = [0u64; 8];
-    let mut read = [0u64; 8];
+    let mut agreed = [0u64; 32];
+    let mut read = [0u64; 32];
     replay_all(&mut agreed, &mut read);
     print_counts(&agreed, &read);
 }

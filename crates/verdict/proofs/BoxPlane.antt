@@ -12,7 +12,6 @@ use lib.Dec.{T, eqb, lit<, lit≤}
 use lib.IntN.{ℤ, pos, negℤ, natAbs, _+ℤ_, _-ℤ_, _*ℤ_}
 use lib.Signed.{nonNeg}
 use lib.Ieee.{Float, le, lt, eq, neg, round}
-use lib.Ieee.Fits.{and-i, and-l, and-r}
 use Rattle.number.specs.Arithmetic.{_⊘_}
 use Rattle.number.specs.Whole.{Whole}
 use Rattle.number.proofs.Integer.{by-test, of-self as self, of-pos, of-neg, of-eq, abs-minus, abs-neg}
@@ -35,8 +34,9 @@ use Rattle.verdict.specs.declared.plane.Plane.{Plane}
 use Rattle.verdict.specs.declared.bbox.BBox3d.{BBox3d}
 use Rattle.verdict.specs.Plane.{equation, fromEquation, offset, endToward, furthest, reachesPositiveSide, underInverseTranspose}
 use Rattle.verdict.specs.BBox.{boxEpsilon}
-use Rattle.verdict.specs.Frustum.{every, intoSpace, intoSpaceOf, boxOf}
-use Rattle.verdict.specs.FarmGrid.{WholePlane, AxisPlane, WholeBox, IsPlane, ArePlanes, none, more, IsBox, Every}
+use Rattle.verdict.specs.Frustum.{intoSpace, intoSpaceOf, boxOf}
+use Rattle.verdict.specs.FarmGrid.{WholePlane, AxisPlane, WholeBox, IsPlane, ArePlanes, IsBox, Every}
+use Rattle.verdict.proofs.EveryPlane.{every-is}
 use Rattle.verdict.proofs.Distance.{same-test, non-negative}
 use Rattle.verdict.proofs.BoxReach.{Reaches, inSpace, ahead, distanceIn, in-space-single, reach-in-space, at-least}
 
@@ -184,16 +184,6 @@ module _ {b : BBox3d} {B : WholeBox} (g : IsBox b B) where
   abbrev test : Plane → Bool
   test p = reachesPositiveSide (underInverseTranspose (intoSpaceOf b) p) (b .range)
 
-  every-exact : {ps : List Plane} {Ps : List WholePlane} → ArePlanes AxisPlane ps Ps → T (every test ps) ↔ Every (Reaches B) Ps
-  unfolding every
-  every-exact none = (λ t. tt, λ t. tt)
-  every-exact (more {p} {P} {ps} h hs) =
-      let r = plane-exact h g in
-      let rs = every-exact hs in (
-        λ t. (r .0 (and-l (test p) (every test ps) t), rs .0 (and-r (test p) (every test ps) t)),
-        λ k. and-i (test p) (every test ps) (r .1 (k .0)) (rs .1 (k .1)),
-      )
-
   pub box-reaches : {ps : List Plane} {Ps : List WholePlane} → ArePlanes AxisPlane ps Ps → T (boxOf ps b) ↔ Every (Reaches B) Ps
   unfolding boxOf
-  box-reaches hs = rw (nonempty-whole (g .range) (g .grid .some)) (every-exact hs)
+  box-reaches hs = rw (nonempty-whole (g .range) (g .grid .some)) (every-is AxisPlane test (Reaches B) (λ p P h. plane-exact h g) hs)

@@ -3,7 +3,7 @@
 -- their distance; so that the moved box reaches exactly as far past the moved plane.
 use mathlib.Core.Path.{_≡_, ap, _∙_}
 use mathlib.Core.Logic.{_↔_, Iff·trans, Iff·symm}
-use mathlib.Core.List.{List, [], _∷_, map}
+use mathlib.Core.List.{List, map}
 use Prim.Native.Nat.{ℕ}
 use lib.IntN.{ℤ, _-ℤ_}
 use Rattle.matrix.specs.Placement.{PlacementWithin, movedℤ, productℤ, larger}
@@ -13,6 +13,7 @@ use Rattle.verdict.specs.declared.bbox.BBox3d.{BBox3d}
 use Rattle.verdict.specs.Frustum.{boxOf}
 use Rattle.verdict.specs.FarmGrid.{WholePlane, AxisPlane, WholeBox, ArePlanes, IsBox, Every, movedPlane, movedBox}
 use Rattle.verdict.proofs.Distance.{gap, same-test}
+use Rattle.verdict.proofs.EveryPlane.{every-moved}
 use Rattle.verdict.proofs.Turned.{gap-moved}
 use Rattle.verdict.proofs.BoxReach.{Reaches, reachOf}
 use Rattle.verdict.proofs.BoxPlane.{box-reaches}
@@ -30,13 +31,8 @@ module _ {a : ℕ} {f : ℕ → ℕ → ℤ} (F : PlacementWithin a f) where
     reach-moved P t = larger (corner-moved P (B .low) t) (corner-moved P (B .high) t)
 
     all-moved : (Ps : List WholePlane) → Every (Reaches (movedBox f B)) (map (movedPlane f) Ps) ↔ Every (Reaches B) Ps
-    all-moved [] = (λ t. t, λ t. t)
-    all-moved (P ∷ Ps) =
-        let e = reach-moved P in
-        let rs = all-moved Ps in (
-          λ t. (record { reach = rw (← e) (t .0 .reach) }, rs .0 (t .1)),
-          λ t. (record { reach = rw e (t .0 .reach) }, rs .1 (t .1)),
-        )
+    all-moved = every-moved (Reaches (movedBox f B)) (Reaches B) (movedPlane f)
+        (λ P. (λ t. record { reach = rw (← reach-moved P) (t .reach) }, λ t. record { reach = rw (reach-moved P) (t .reach) }))
 
   -- floats ps and b of the grid, and floats ps' and b' that are the moved ones and on the grid again
   module _ {ps ps' : List Plane} {Ps : List WholePlane} (hs : ArePlanes AxisPlane ps Ps) (hs' : ArePlanes AxisPlane ps' (map (movedPlane f) Ps))

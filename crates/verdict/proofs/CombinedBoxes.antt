@@ -19,9 +19,9 @@ use Rattle.matrix.specs.declared.matrix.Mat4d.{Mat4d}
 use Rattle.matrix.specs.declared.range.Range3d.{Range3d}
 use Rattle.matrix.specs.declared.inverse.Inverted.the-variants.{Matrix}
 use Rattle.matrix.specs.Placement.{WholeRange, WholeMatrix, Within, NonEmpty, PlacementWithin, Placement, GridPoint, gridSize}
-use Rattle.matrix.specs.Placement.{productℤ, inverseℤ, placedLow, placedHigh}
+use Rattle.matrix.specs.Placement.{productℤ, placedLow, placedHigh}
 use Rattle.matrix.specs.Placement.{smaller as smallerℤ, larger as largerℤ}
-use Rattle.matrix.proofs.QuarterTurns.{widen, widen-placement, product-placement, inverse-placement}
+use Rattle.matrix.proofs.QuarterTurns.{inverseℤ, widen, widen-placement, product-placement, inverse-placement}
 use Rattle.matrix.proofs.WholeMatrices.{product-whole}
 use Rattle.matrix.proofs.Inverses.{WholeInverse, inverse-whole}
 use Rattle.matrix.proofs.WholeRanges.{nonempty-whole, union-whole, transformed-whole}

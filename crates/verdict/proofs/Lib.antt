@@ -8,6 +8,7 @@ pub mod Flags
 pub mod Dot
 pub mod Distance
 pub mod Span
+pub mod EveryPlane
 pub mod ExactPoints
 pub mod Segment
 pub mod MorePlanes
@@ -24,6 +25,6 @@ pub mod CombinedRecords
 pub mod Combining
 pub mod Turns
 pub mod PlanesLeft
-pub mod SegmentLeft
+pub mod Passes
 pub mod Choices
 pub mod Marked

@@ -19,10 +19,11 @@ use Rattle.verdict.specs.declared.plane.Plane.{Plane}
 use Rattle.verdict.specs.Plane.{onPositiveSide}
 use Rattle.verdict.specs.Frustum.{every, pointOf, hasEnd, crossing, startCut, endCut, spanLeft, segmentOf}
 use Rattle.verdict.specs.FarmGrid.{WholePlane, SegmentPlane, IsPoint, IsPlane, ArePlanes, none, more}
-use Rattle.verdict.specs.FarmGrid.{exactly, Satisfies, Every, PointExact, SegmentExact}
+use Rattle.verdict.specs.FarmGrid.{exactly, Satisfies, PointExact, SegmentExact}
 use Rattle.matrix.proofs.WholeMatrices.{zero-whole, one-whole}
 use Rattle.verdict.proofs.Distance.{gap, non-negative, distance-whole, side, slope-fit}
 use Rattle.verdict.proofs.Span.{Keeps, Both, Span, Place, place-map, whole-span, has-place, not-past, cut}
+use Rattle.verdict.proofs.EveryPlane.{every-is}
 use Rattle.verdict.proofs.ExactPoints.{every-map, point-gap, Kept, first-kept, second-kept, segment-place}
 
 -- ---- tests
@@ -34,23 +35,11 @@ or-second : (u v : Bool) → T v → T (u || v)
 or-second true v t = tt
 or-second false v t = t
 
--- where a test says K of each segment plane, the test of every plane says K of every one
-module _ (test : Plane → Bool) (K : WholePlane → Type 0) (says : (p : Plane) (P : WholePlane) → IsPlane SegmentPlane p P → T (test p) ↔ K P) where
-  every-is : {ps : List Plane} {Ps : List WholePlane} → ArePlanes SegmentPlane ps Ps → T (every test ps) ↔ Every K Ps
-  unfolding every
-  every-is none = (λ t. tt, λ h. tt)
-  every-is (more {p} {P} {ps} h hs) =
-      let r = says p P h in
-      let rs = every-is hs in (
-        λ t. (r .0 (and-l (test p) (every test ps) t), rs .0 (and-r (test p) (every test ps) t)),
-        λ k. and-i (test p) (every test ps) (r .1 (k .0)) (rs .1 (k .1)),
-      )
-
 -- ---- the point verdict
 pub point-exact : (ps : List Plane) (a : Vec3d) → PointExact (pointOf ps a) ps a
 unfolding pointOf
 point-exact ps a = record {
-  exact = λ {Ps} {A} hs g. every-is (λ p. onPositiveSide p a) (λ P. Satisfies P (exactly A)) (λ p P h.
+  exact = λ {Ps} {A} hs g. every-is SegmentPlane (λ p. onPositiveSide p a) (λ P. Satisfies P (exactly A)) (λ p P h.
       rw (side h g) (Iff·trans (non-negative (gap P A)) (Iff·symm (point-gap P A)))) hs;
 }
 
@@ -81,7 +70,7 @@ goes-on test rest e s f = (
 module _ {a b : Vec3d} {A B : ℕ → ℤ} (g : IsPoint a A) (g' : IsPoint b B) where
   covered : {ps : List Plane} {Ps : List WholePlane} → ArePlanes SegmentPlane ps Ps → Place (Kept Ps A B) → T (every (hasEnd a b) ps)
   covered {Ps = Ps} hs w =
-      every-is (hasEnd a b) (λ P. T (nonNeg (gap P A) || nonNeg (gap P B))) (λ p P h. rw (side h g, side h g') (λ t. t, λ t. t)) hs .1
+      every-is SegmentPlane (hasEnd a b) (λ P. T (nonNeg (gap P A) || nonNeg (gap P B))) (λ p P h. rw (side h g, side h g') (λ t. t, λ t. t)) hs .1
       (every-map (λ P. kept-end (gap P A) (gap P B) (w .u) (w .m) (w .some)) Ps (w .holds))
 
   -- what a plane leaves of a span

@@ -3,7 +3,7 @@
 -- and exact verdicts depend on these distances alone.
 use mathlib.Core.Path.{_≡_}
 use mathlib.Core.Logic.{_↔_, Iff·trans, Iff·symm}
-use mathlib.Core.List.{List, [], _∷_, map}
+use mathlib.Core.List.{List, map}
 use Prim.Native.Nat.{ℕ}
 use native.Mathlib.Omega.{arith}
 use lib.IntN.{ℤ, _+ℤ_, _-ℤ_}
@@ -12,21 +12,14 @@ use Rattle.matrix.specs.declared.vec.Vec3d.{Vec3d}
 use Rattle.matrix.specs.Placement.{dotℤ, turnedℤ, movedℤ, QuarterTurn}
 use Rattle.verdict.specs.declared.plane.Plane.{Plane}
 use Rattle.verdict.specs.Frustum.{pointOf, segmentOf}
-use Rattle.verdict.specs.FarmGrid.{WholePlane, SegmentPlane, IsPoint, ArePlanes, exactly, Satisfies, Every, InView, SegmentInView, movedPlane}
+use Rattle.verdict.specs.FarmGrid.{WholePlane, SegmentPlane, IsPoint, ArePlanes, exactly, Satisfies, InView, SegmentInView, movedPlane}
 use Rattle.verdict.proofs.Dot.{dot-sum}
 use Rattle.verdict.proofs.TurnedDot.{keeps-dot}
 use Rattle.verdict.proofs.Distance.{gap, same-test}
 use Rattle.verdict.proofs.Span.{Keeps, place-map}
+use Rattle.verdict.proofs.EveryPlane.{every-moved}
 use Rattle.verdict.proofs.ExactPoints.{point-gap, Kept, segment-place}
 use Rattle.verdict.proofs.Segment.{point-exact, segment-exact}
-
--- a condition on the moved planes is one on the planes
-module _ (K L : WholePlane → Type 0) (f : WholePlane → WholePlane) (h : (P : WholePlane) → K (f P) ↔ L P) where
-  every-moved : (Ps : List WholePlane) → Every K (map f Ps) ↔ Every L Ps
-  every-moved [] = (λ t. t, λ t. t)
-  every-moved (P ∷ Ps) =
-      let rs = every-moved Ps in
-      (λ t. (h P .0 (t .0), rs .0 (t .1)), λ t. (h P .1 (t .0), rs .1 (t .1)))
 
 module _ {f : ℕ → ℕ → ℤ} (F : QuarterTurn f) where
   -- the distance of a plane from a point stays

@@ -1,12 +1,11 @@
 -- Boxes in a space of their own, placed by a matrix, as Gf's documentation has them. Definitions only.
-use Prim.Native.Nat.{ℕ, _+_, _*_, _^_}
-use mathlib.Core.Bool.{Bool, true, false, cond, _||_}
+use Prim.Native.Nat.{_+_, _*_, _^_}
+use mathlib.Core.Bool.{Bool, false, cond, _||_}
 use mathlib.Core.List.{List, [], _∷_, _++_}
 use lib.Ieee.{Float, lt, le, eq}
 use Rattle.number.specs.Arithmetic.{_⊖_, _⊗_, absOf, maxOf}
 use Rattle.number.specs.Slice.{at}
 use Rattle.matrix.specs.Constants.{rounded, positiveZero, one}
-use Rattle.matrix.specs.Vec.{vec3}
 use Rattle.matrix.specs.Matrix.{entries, matrix, identity, product, determinant3}
 use Rattle.matrix.specs.Inverse.{inverseAbove}
 use Rattle.matrix.specs.Transform.{transformed as transformedPoint}

@@ -18,7 +18,6 @@ use Rattle.matrix.specs.declared.inverse.Inverted.{Inverted}
 use Rattle.matrix.specs.declared.inverse.Inverted.the-variants.{Matrix, Singular}
 use Rattle.verdict.specs.declared.plane.Plane.{Plane}
 use Rattle.verdict.specs.declared.bbox.BBox3d.{BBox3d}
-use Rattle.verdict.specs.declared.frustum.Span.{Span}
 use Rattle.verdict.specs.declared.ray.Ray.{Ray}
 use Rattle.verdict.specs.declared.ray.TriangleHit.{TriangleHit}
 use Rattle.verdict.specs.declared.ray.TriangleHit.the-variants.{Hit, Refused}
@@ -71,16 +70,6 @@ spanLeft (p ∷ ps) a b start end =
 unfoldable pub segmentOf : List Plane → Vec3d → Vec3d → Bool
 unfolding every pointOf spanLeft
 segmentOf ps a b = every (hasEnd a b) ps && (pointOf ps a || pointOf ps b || spanLeft ps a b positiveZero one)
-
--- What the planes passed leave of the segment, past one plane more: it has a, b or both of them on its positive side.
-abbrev pub passed : Bool → Bool → Float → Span → Span
-passed true true at s = s
-passed true false at s =
-    let end = minOf (s .end) at in
-    record { first = s .first; second = false; left = s .left && not (lt end (s .start)); start = s .start; end = end }
-passed false inB at s =
-    let start = maxOf (s .start) at in
-    record { first = false; second = s .second; left = s .left && not (lt (s .end) start); start = start; end = s .end }
 
 -- ---- a box: every plane, brought into the box's own space, is reached by its range
 

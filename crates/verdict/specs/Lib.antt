@@ -12,4 +12,4 @@ pub mod FarmGrid
 pub mod Combining
 pub mod Turns
 pub mod Marked
-pub mod ViewVolume
+pub mod Passes

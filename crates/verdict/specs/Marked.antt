@@ -1,11 +1,11 @@
 -- Paper 01, "Twelve marked verdicts": "Prove this table of its definitions as a whole." Its inputs as the numbers of their records, and the table of the
 -- answers there, by the definitions that the contracts of the three operations cite. Definitions only.
 use mathlib.Core.Path.{_≡_}
-use mathlib.Core.Bool.{Bool, true, false}
+use mathlib.Core.Bool.{true, false}
 use mathlib.Core.List.{List, [], _∷_, _++_}
 use Prim.Native.Nat.{ℕ}
 use lib.Ieee.{Float, neg}
-use Rattle.number.specs.Answer.{Outcome, result}
+use Rattle.number.specs.Answer.{result}
 use Rattle.matrix.specs.Constants.{rounded}
 use Rattle.verdict.specs.FrustumCalls.{intersectsPointCall, intersectsSegmentCall, intersectsBoxCall}
 

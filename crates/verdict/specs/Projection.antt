@@ -9,9 +9,7 @@ use Rattle.number.specs.Answer.{Outcome, refused, result}
 use Rattle.number.specs.Arithmetic.{_⊕_, _⊖_, _⊗_, _⊘_, absOf, maxOf}
 use Rattle.number.specs.Slice.{at}
 use Rattle.matrix.specs.Constants.{rounded, positiveZero, half, one}
-use Rattle.matrix.specs.Vec.{coordinates4}
 use Rattle.matrix.specs.Matrix.{entries, entry, matrixOf}
-use Rattle.matrix.specs.declared.vec.Vec4d.{Vec4d}
 use Rattle.matrix.specs.declared.matrix.Mat4d.{Mat4d}
 use Rattle.verdict.specs.declared.projection.Projection.{Projection}
 use Rattle.verdict.specs.declared.projection.Projection.the-variants.{Perspective, Orthographic}
@@ -117,9 +115,9 @@ orthographicOf m =
 abbrev pub tolerance : Float
 tolerance = rounded 1 1000000
 
--- both finite, and no further apart than 1e-6 of the larger in size, or of 1
+-- both finite, and no further apart than 1e-6 of 1, or of the larger in size where that exceeds 1
 unfoldable pub close : Float → Float → Bool
-close given built = finite given && finite built && le (absOf (given ⊖ built)) (tolerance ⊗ maxOf (maxOf (absOf given) (absOf built)) one)
+close given built = finite given && finite built && le (absOf (given ⊖ built)) (tolerance ⊗ maxOf (maxOf one (absOf given)) (absOf built))
 
 -- each of the numbers 0, 1, .. below n passes a test
 unfoldable pub everyBelow : ℕ → (ℕ → Bool) → Bool
@@ -128,9 +126,6 @@ everyBelow (suc n) test = everyBelow n test && test n
 
 abbrev pub closeAt : List Float → List Float → ℕ → Bool
 closeAt given built i = close (at given i) (at built i)
-
-unfoldable pub closeRow : Vec4d → Vec4d → Bool
-closeRow given built = everyBelow 4 (closeAt (coordinates4 given) (coordinates4 built))
 
 -- "all 16 entries within the 1e-6 rebuild check"
 unfoldable pub closeTo : Mat4d → Mat4d → Bool

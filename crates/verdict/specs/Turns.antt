@@ -8,7 +8,7 @@ use lib.IntN.{ℤ}
 use Rattle.matrix.specs.declared.vec.Vec3d.{Vec3d}
 use Rattle.matrix.specs.declared.matrix.Mat4d.{Mat4d}
 use Rattle.matrix.specs.Transform.{transformed}
-use Rattle.matrix.specs.Placement.{Placed, GridPoint, movedℤ}
+use Rattle.matrix.specs.Placement.{GridPoint, movedℤ}
 use Rattle.verdict.specs.declared.plane.Plane.{Plane}
 use Rattle.verdict.specs.declared.bbox.BBox3d.{BBox3d}
 use Rattle.verdict.specs.BBox.{placed}

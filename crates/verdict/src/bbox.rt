@@ -1,17 +1,18 @@
 // Boxes in a space of their own, each placed by a matrix.
 ghost use mathlib.Core.Path.{_≡_};
 ghost use mathlib.Core.Bool.{_||_};
+ghost use lib.ListN.{length};
 ghost use Rattle.matrix.specs.Range.{isEmpty};
 ghost use Rattle.number.specs.Slice.{stored};
 ghost use Rattle.verdict.specs.BBox.{flagOf, isFlag, numbers, boxOf, intoBox, alignedRange, centroid, volume, placed, extended, tolerance, preferred, smaller, aligned, merged, held, combined};
+use crate::record::vec3_at;
+use crate::record::vec4_at;
 use matrix::inverse::Inverted;
 use matrix::matrix::Mat4d;
 use matrix::range::Range3d;
 use matrix::vec::Vec3d;
-use matrix::vec::Vec4d;
 use number::order;
 use number::slice;
-use number::slice::at;
 
 // The range, the matrix from its space to the world's, and whether it bounds something with no area.
 pub struct BBox3d {
@@ -78,7 +79,11 @@ impl BBox3d {
             return 0.0;
         }
         let size = self.range.size();
-        order::abs(self.matrix.determinant3() * size.x * size.y * size.z)
+        let volume = self.matrix.determinant3() * size.x * size.y * size.z;
+        if volume != volume {
+            return volume;
+        }
+        order::abs(volume)
     }
 
     // Under a matrix applied after its own.
@@ -110,7 +115,7 @@ impl BBox3d {
         ensures { λ r. ⌜ r ≡ extended self other inverse ⌝ }
     {
         let matrix = self.matrix;
-        let projected = other.range.transformed(other.matrix.product(inverse));
+        let projected = other.range.transformed_by_product(other.matrix, inverse);
         BBox3d {
             range: self.range.union(projected),
             matrix,
@@ -183,18 +188,22 @@ impl BBox3d {
     }
 
     // The numbers of a record.
-    pub fn load(s: &[f64]) -> BBox3d
+    pub(crate) fn load(s: &[f64]) -> BBox3d
+        requires { ⌜ length (now s) ≡ 23 ⌝ }
         ensures { λ r. ⌜ r ≡ boxOf (now (s .entry)) ⌝ }
     {
         BBox3d {
-            range: Range3d::load(s),
-            matrix: Mat4d {
-                r0: Vec4d::load_at(s, 6),
-                r1: Vec4d::load_at(s, 10),
-                r2: Vec4d::load_at(s, 14),
-                r3: Vec4d::load_at(s, 18),
+            range: Range3d {
+                min: vec3_at(s, 0),
+                max: vec3_at(s, 3),
             },
-            flag: at(s, 22) == 1.0,
+            matrix: Mat4d {
+                r0: vec4_at(s, 6),
+                r1: vec4_at(s, 10),
+                r2: vec4_at(s, 14),
+                r3: vec4_at(s, 18),
+            },
+            flag: s[22] == 1.0,
         }
     }
 

@@ -1,39 +1,41 @@
 // The verdicts of a view: whether a point, a segment or a box is in it. A view is a record of six planes that face into it, then four rays.
 ghost use mathlib.Core.Path.{_≡_};
-ghost use lib.Ieee.{le, neg};
-ghost use Rattle.number.specs.Arithmetic.{_⊘_};
-ghost use Rattle.matrix.specs.Constants.{positiveZero};
-ghost use Rattle.matrix.specs.Vec.{dot};
-ghost use Rattle.verdict.specs.Frustum.{planeAt, planesOf, pointOf, segmentOf, passed, intoSpaceOf, boxOf};
+ghost use Prim.Native.Nat.{_<_};
+ghost use lib.ListN.{length};
+ghost use Rattle.matrix.specs.Constants.{positiveZero, one};
+ghost use Rattle.verdict.specs.Plane.{onPositiveSide};
+ghost use Rattle.verdict.specs.Passes.{endsOf, endsPast};
+ghost use Rattle.verdict.specs.Frustum.{planeCount, planeAt, planesOf, pointOf, crossing, startCut, endCut, spanLeft, segmentOf, intoSpaceOf, boxOf};
 use crate::bbox::BBox3d;
 use crate::plane::Plane;
+use crate::record::vec3_at;
 use matrix::inverse::Inverted;
 use matrix::matrix::Mat4d;
 use matrix::vec::Vec3d;
 use number::order;
-use number::slice::at;
+
+// How many planes a view has.
+pub(crate) const PLANE_COUNT: u32 = 6;
 
 // Plane i of a view.
-pub fn plane_at(volume: &[f64], i: u32) -> Plane
+pub(crate) fn plane_at(volume: &[f64], i: u32) -> Plane
+    requires { ⌜ (i < planeCount) × (length (now volume) ≡ 48) ⌝ }
     ensures { λ r. ⌜ r ≡ planeAt (now (volume .entry)) i ⌝ }
 {
     let from = i as usize * 4;
     Plane {
-        normal: Vec3d {
-            x: at(volume, from),
-            y: at(volume, from + 1),
-            z: at(volume, from + 2),
-        },
-        distance: at(volume, from + 3),
+        normal: vec3_at(volume, from),
+        distance: volume[from + 3],
     }
 }
 
 // Whether a point is on the positive side of every plane.
-pub fn intersects_point(volume: &[f64], p: Vec3d) -> bool
+pub(crate) fn intersects_point(volume: &[f64], p: Vec3d) -> bool
+    requires { ⌜ length (now volume) ≡ 48 ⌝ }
     ensures { λ r. ⌜ r ≡ pointOf (planesOf (now (volume .entry))) p ⌝ }
 {
     let mut i: u32 = 0;
-    while i < 6 {
+    while i < PLANE_COUNT {
         if !plane_at(volume, i).on_positive_side(p) {
             return false;
         }
@@ -42,69 +44,117 @@ pub fn intersects_point(volume: &[f64], p: Vec3d) -> bool
     true
 }
 
-// What the planes passed leave of a segment from a to b: whether all of them have its first end, a, on their positive side, whether
-// all have its second there, and whether some of the span is left, from a start to an end that are 0 at a and 1 at b.
+// Whether each plane passed has one end of a segment at least on its positive side, whether each has the first there, and whether
+// each has the second.
+pub(crate) struct Ends {
+    pub(crate) some: bool,
+    pub(crate) first: bool,
+    pub(crate) second: bool,
+}
+
+impl Ends {
+    pub(crate) const UNTESTED: Ends = Ends {
+        some: true,
+        first: true,
+        second: true,
+    };
+
+    // Past one plane more.
+    pub(crate) fn past(self, first: bool, second: bool) -> Ends
+        ensures { λ r. ⌜ r ≡ endsPast first second self ⌝ }
+    {
+        Ends {
+            some: (first | second) & self.some,
+            first: first & self.first,
+            second: second & self.second,
+        }
+    }
+}
+
+fn ends_of(volume: &[f64], a: Vec3d, b: Vec3d) -> Ends
+    requires { ⌜ length (now volume) ≡ 48 ⌝ }
+    ensures { λ r. ⌜ r ≡ endsOf (planesOf (now (volume .entry))) a b ⌝ }
+{
+    let mut ends = Ends::UNTESTED;
+    let mut i: u32 = PLANE_COUNT;
+    while 0 < i {
+        i -= 1;
+        let plane = plane_at(volume, i);
+        ends = ends.past(plane.on_positive_side(a), plane.on_positive_side(b));
+    }
+    ends
+}
+
+// Where the segment from a to b meets a plane, as a number that is 0 at a and 1 at b.
+fn crossing(plane: Plane, a: Vec3d, b: Vec3d) -> f64
+    ensures { λ r. ⌜ r ≡ crossing plane a b ⌝ }
+{
+    -plane.distance(a) / plane.normal.dot(b.sub(a))
+}
+
+// What the planes passed leave of a segment from a to b: from a start to an end that are 0 at a and 1 at b.
 struct Span {
-    first: bool,
-    second: bool,
-    left: bool,
     start: f64,
     end: f64,
 }
 
 impl Span {
-    // Past one plane more, from which a and b have the distances da and db, one of which at least is not negative.
-    fn past(self, normal: Vec3d, along: Vec3d, da: f64, db: f64) -> Span
-        ensures { λ r. ⌜ r ≡ passed (le positiveZero da) (le positiveZero db) (neg da ⊘ dot normal along) self ⌝ }
+    // Past one plane more.
+    fn cut(self, plane: Plane, a: Vec3d, b: Vec3d) -> Span
+        ensures { λ r. ⌜ (r .start ≡ startCut (onPositiveSide plane a) (onPositiveSide plane b) (self .start) (crossing plane a b)) × (r .end ≡ endCut (onPositiveSide plane a) (onPositiveSide plane b) (self .end) (crossing plane a b)) ⌝ }
     {
-        if da >= 0.0 {
-            if db >= 0.0 {
+        if plane.on_positive_side(a) {
+            if plane.on_positive_side(b) {
                 return self;
             }
-            let end = order::min(self.end, -da / normal.dot(along));
             return Span {
-                first: self.first,
-                second: false,
-                left: self.left & !(self.start > end),
                 start: self.start,
-                end,
+                end: order::min(self.end, crossing(plane, a, b)),
             };
         }
-        let start = order::max(self.start, -da / normal.dot(along));
-        Span {
-            first: false,
-            second: self.second,
-            left: self.left & !(start > self.end),
-            start,
-            end: self.end,
+        if plane.on_positive_side(b) {
+            return Span {
+                start: order::max(self.start, crossing(plane, a, b)),
+                end: self.end,
+            };
         }
+        self
     }
 }
 
-// Whether a segment has some of it on the positive side of every plane, by where it crosses them.
-pub fn intersects_segment(volume: &[f64], a: Vec3d, b: Vec3d) -> bool
-    ensures { λ r. ⌜ r ≡ segmentOf (planesOf (now (volume .entry))) a b ⌝ }
+// Whether the planes leave some of a segment, by where it crosses them.
+pub(crate) fn span_left(volume: &[f64], a: Vec3d, b: Vec3d) -> bool
+    requires { ⌜ length (now volume) ≡ 48 ⌝ }
+    ensures { λ r. ⌜ r ≡ spanLeft (planesOf (now (volume .entry))) a b positiveZero one ⌝ }
 {
-    let along = b.sub(a);
     let mut span = Span {
-        first: true,
-        second: true,
-        left: true,
         start: 0.0,
         end: 1.0,
     };
     let mut i: u32 = 0;
-    while i < 6 {
-        let side = plane_at(volume, i);
-        let da = side.distance(a);
-        let db = side.distance(b);
-        if !((da >= 0.0) | (db >= 0.0)) {
+    while i < PLANE_COUNT {
+        span = span.cut(plane_at(volume, i), a, b);
+        if span.start > span.end {
             return false;
         }
-        span = span.past(side.normal, along, da, db);
         i += 1;
     }
-    span.first | span.second | span.left
+    true
+}
+
+// Whether some of a segment is on the positive side of every plane.
+pub(crate) fn intersects_segment(volume: &[f64], a: Vec3d, b: Vec3d) -> bool
+    requires { ⌜ length (now volume) ≡ 48 ⌝ }
+    ensures { λ r. ⌜ r ≡ segmentOf (planesOf (now (volume .entry))) a b ⌝ }
+{
+    let ends = ends_of(volume, a, b);
+    if !ends.some {
+        return false;
+    }
+    if ends.first | ends.second {
+        return true;
+    }
+    span_left(volume, a, b)
 }
 
 // The matrix that carries planes into the space of a box; a degenerate box is taken as if its matrix were the identity.
@@ -118,7 +168,8 @@ fn into_space(b: BBox3d) -> Mat4d
 }
 
 // Whether a box reaches the positive side of every plane. An empty one does not.
-pub fn intersects_bbox(volume: &[f64], b: BBox3d) -> bool
+pub(crate) fn intersects_bbox(volume: &[f64], b: BBox3d) -> bool
+    requires { ⌜ length (now volume) ≡ 48 ⌝ }
     ensures { λ r. ⌜ r ≡ boxOf (planesOf (now (volume .entry))) b ⌝ }
 {
     let range = b.range;
@@ -127,7 +178,7 @@ pub fn intersects_bbox(volume: &[f64], b: BBox3d) -> bool
     }
     let into = into_space(b);
     let mut i: u32 = 0;
-    while i < 6 {
+    while i < PLANE_COUNT {
         if !plane_at(volume, i)
             .under_inverse_transpose(into)
             .reaches_positive_side(range) {

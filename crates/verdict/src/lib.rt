@@ -9,5 +9,6 @@ pub mod projection;
 pub mod projection_calls;
 pub mod ray;
 pub mod ray_calls;
+mod record;
 pub mod triangle;
 pub mod view_volume;

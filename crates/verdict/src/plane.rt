@@ -73,9 +73,10 @@ impl Plane {
             y: equation.y,
             z: equation.z,
         };
+        let length = normal.length();
         Plane {
-            normal: normal.normalize(),
-            distance: offset(equation.w, normal.length()),
+            normal: normal.unit(length),
+            distance: offset(equation.w, length),
         }
     }
 

@@ -1,6 +1,6 @@
 // What a projection matrix projects: the kind of projection, and the volume of camera space that it keeps.
 ghost use mathlib.Core.Path.{_≡_};
-ghost use Rattle.verdict.specs.Projection.{kindNumber, numbers, paramsOf, loaded, perspective, orthographic, projecting, around, perspectiveOf, orthographicOf, close, closeRow, closeTo, bounded, confirmed, recovered};
+ghost use Rattle.verdict.specs.Projection.{kindNumber, numbers, paramsOf, loaded, perspective, orthographic, projecting, around, perspectiveOf, orthographicOf, close, closeTo, bounded, confirmed, recovered};
 ghost use Rattle.number.specs.Slice.{stored};
 use matrix::matrix::Mat4d;
 use matrix::vec::Vec4d;
@@ -128,28 +128,31 @@ fn orthographic_of(m: Mat4d) -> ProjectionParams
 fn close(given: f64, built: f64) -> bool
     ensures { λ r. ⌜ r ≡ close given built ⌝ }
 {
-    let size = max(max(abs(given), abs(built)), 1.0);
+    let size = max(max(1.0, abs(given)), abs(built));
     let near = abs(given - built) <= TOLERANCE * size;
     is_finite(given) & is_finite(built) & near
-}
-
-fn close_row(given: Vec4d, built: Vec4d) -> bool
-    ensures { λ r. ⌜ r ≡ closeRow given built ⌝ }
-{
-    close(given.x, built.x)
-        & close(given.y, built.y)
-        & close(given.z, built.z)
-        & close(given.w, built.w)
 }
 
 // Whether each of its numbers is.
 fn close_to(given: Mat4d, built: Mat4d) -> bool
     ensures { λ r. ⌜ r ≡ closeTo given built ⌝ }
 {
-    close_row(given.r0, built.r0)
-        & close_row(given.r1, built.r1)
-        & close_row(given.r2, built.r2)
-        & close_row(given.r3, built.r3)
+    close(given.r0.x, built.r0.x)
+        & close(given.r0.y, built.r0.y)
+        & close(given.r0.z, built.r0.z)
+        & close(given.r0.w, built.r0.w)
+        & close(given.r1.x, built.r1.x)
+        & close(given.r1.y, built.r1.y)
+        & close(given.r1.z, built.r1.z)
+        & close(given.r1.w, built.r1.w)
+        & close(given.r2.x, built.r2.x)
+        & close(given.r2.y, built.r2.y)
+        & close(given.r2.z, built.r2.z)
+        & close(given.r2.w, built.r2.w)
+        & close(given.r3.x, built.r3.x)
+        & close(given.r3.y, built.r3.y)
+        & close(given.r3.z, built.r3.z)
+        & close(given.r3.w, built.r3.w)
 }
 
 impl ProjectionParams {

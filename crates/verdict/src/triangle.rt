@@ -1,73 +1,104 @@
 // Whether a triangle is in view.
 ghost use mathlib.Core.Path.{_≡_};
-ghost use mathlib.Core.Bool.{_||_};
+ghost use mathlib.Core.Bool.{_&&_};
 ghost use Prim.Native.Nat.{_<_, _≤_};
+ghost use lib.ListN.{length};
+ghost use Rattle.matrix.specs.Constants.{positiveZero, one};
 ghost use Rattle.verdict.specs.Ray.{triangleHit};
-ghost use Rattle.verdict.specs.Frustum.{every, planesOf, pointOf, segmentOf, hasCorner, hasCorners, rayAt, raysFrom, isHit, someHit, sightLines, triangleOf};
-use crate::frustum::intersects_point;
-use crate::frustum::intersects_segment;
+ghost use Rattle.verdict.specs.Frustum.{planesOf, spanLeft, hasCorners, rayAt, raysFrom, isHit, someHit, sightLines, triangleOf};
+ghost use Rattle.verdict.specs.Passes.{cornersOf, cornersPast, sideLeft};
+use crate::frustum::Ends;
+use crate::frustum::PLANE_COUNT;
 use crate::frustum::plane_at;
+use crate::frustum::span_left;
 use crate::plane::Plane;
 use crate::ray::Ray;
 use crate::ray::TriangleHit;
+use crate::record::vec3_at;
 use matrix::vec::Vec3d;
 
-// Whether one of three points at least is on a plane's positive side.
-fn has_corner(plane: Plane, p0: Vec3d, p1: Vec3d, p2: Vec3d) -> bool
-    ensures { λ r. ⌜ r ≡ hasCorner p0 p1 p2 plane ⌝ }
-{
-    plane.on_positive_side(p0) | plane.on_positive_side(p1) | plane.on_positive_side(p2)
+// Whether each plane passed has one of three points at least on its positive side, and what it has there of each side's ends.
+struct Corners {
+    some: bool,
+    side01: Ends,
+    side12: Ends,
+    side20: Ends,
 }
 
-// Whether all of them are.
+impl Corners {
+    const UNTESTED: Corners = Corners {
+        some: true,
+        side01: Ends::UNTESTED,
+        side12: Ends::UNTESTED,
+        side20: Ends::UNTESTED,
+    };
+
+    // Past one plane more.
+    fn past(self, in0: bool, in1: bool, in2: bool) -> Corners
+        ensures { λ r. ⌜ r ≡ cornersPast in0 in1 in2 self ⌝ }
+    {
+        Corners {
+            some: (in0 | in1 | in2) & self.some,
+            side01: self.side01.past(in0, in1),
+            side12: self.side12.past(in1, in2),
+            side20: self.side20.past(in2, in0),
+        }
+    }
+}
+
+fn corners_of(volume: &[f64], p0: Vec3d, p1: Vec3d, p2: Vec3d) -> Corners
+    requires { ⌜ length (now volume) ≡ 48 ⌝ }
+    ensures { λ r. ⌜ r ≡ cornersOf (planesOf (now (volume .entry))) p0 p1 p2 ⌝ }
+{
+    let mut corners = Corners::UNTESTED;
+    let mut i: u32 = PLANE_COUNT;
+    while 0 < i {
+        i -= 1;
+        let plane = plane_at(volume, i);
+        corners = corners.past(
+            plane.on_positive_side(p0),
+            plane.on_positive_side(p1),
+            plane.on_positive_side(p2),
+        );
+    }
+    corners
+}
+
+// Whether the planes leave some of a side, of which both ends are outside.
+fn crosses(volume: &[f64], ends: Ends, a: Vec3d, b: Vec3d) -> bool
+    requires { ⌜ length (now volume) ≡ 48 ⌝ }
+    ensures { λ r. ⌜ r ≡ (ends .some && spanLeft (planesOf (now (volume .entry))) a b positiveZero one) ⌝ }
+{
+    if ends.some {
+        return span_left(volume, a, b);
+    }
+    false
+}
+
+// Whether some of a side is in view, of sides with all ends outside.
+fn side_in_view(volume: &[f64], corners: Corners, p0: Vec3d, p1: Vec3d, p2: Vec3d) -> bool
+    requires { ⌜ length (now volume) ≡ 48 ⌝ }
+    ensures { λ r. ⌜ r ≡ sideLeft (planesOf (now (volume .entry))) corners p0 p1 p2 ⌝ }
+{
+    if crosses(volume, corners.side01, p0, p1) {
+        return true;
+    }
+    if crosses(volume, corners.side12, p1, p2) {
+        return true;
+    }
+    crosses(volume, corners.side20, p2, p0)
+}
+
+// Whether a plane has all of three points on its positive side.
 fn has_corners(plane: Plane, p0: Vec3d, p1: Vec3d, p2: Vec3d) -> bool
     ensures { λ r. ⌜ r ≡ hasCorners p0 p1 p2 plane ⌝ }
 {
     plane.on_positive_side(p0) & plane.on_positive_side(p1) & plane.on_positive_side(p2)
 }
 
-// Whether no plane has all of them behind it.
-fn before_planes(volume: &[f64], p0: Vec3d, p1: Vec3d, p2: Vec3d) -> bool
-    ensures { λ r. ⌜ r ≡ every (hasCorner p0 p1 p2) (planesOf (now (volume .entry))) ⌝ }
-{
-    let mut i: u32 = 0;
-    while i < 6 {
-        if !has_corner(plane_at(volume, i), p0, p1, p2) {
-            return false;
-        }
-        i += 1;
-    }
-    true
-}
-
-// Whether one of them is in view.
-fn corner_in_view(volume: &[f64], p0: Vec3d, p1: Vec3d, p2: Vec3d) -> bool
-    ensures { λ r. ⌜ r ≡ (pointOf (planesOf (now (volume .entry))) p0 || pointOf (planesOf (now (volume .entry))) p1 || pointOf (planesOf (now (volume .entry))) p2) ⌝ }
-{
-    if intersects_point(volume, p0) {
-        return true;
-    }
-    if intersects_point(volume, p1) {
-        return true;
-    }
-    intersects_point(volume, p2)
-}
-
-// Whether some of a side is.
-fn side_in_view(volume: &[f64], p0: Vec3d, p1: Vec3d, p2: Vec3d) -> bool
-    ensures { λ r. ⌜ r ≡ (segmentOf (planesOf (now (volume .entry))) p0 p1 || segmentOf (planesOf (now (volume .entry))) p1 p2 || segmentOf (planesOf (now (volume .entry))) p2 p0) ⌝ }
-{
-    if intersects_segment(volume, p0, p1) {
-        return true;
-    }
-    if intersects_segment(volume, p1, p2) {
-        return true;
-    }
-    intersects_segment(volume, p2, p0)
-}
-
 // How many lines of sight are tried: one where all three points are between the near and the far plane.
 fn sight_lines(volume: &[f64], p0: Vec3d, p1: Vec3d, p2: Vec3d) -> u32
+    requires { ⌜ length (now volume) ≡ 48 ⌝ }
     ensures { λ r. ⌜ r ≡ sightLines (now (volume .entry)) p0 p1 p2 ⌝ }
 {
     if has_corners(plane_at(volume, 4), p0, p1, p2) {
@@ -81,12 +112,12 @@ fn sight_lines(volume: &[f64], p0: Vec3d, p1: Vec3d, p2: Vec3d) -> u32
 
 // A line of sight along a corner of the view.
 fn ray_at(volume: &[f64], i: u32) -> Ray
-    requires { ⌜ i < 4 ⌝ }
+    requires { ⌜ (i < 4) × (length (now volume) ≡ 48) ⌝ }
     ensures { λ r. ⌜ r ≡ rayAt (now (volume .entry)) i ⌝ }
 {
     Ray {
-        start: Vec3d::load_at(volume, 24 + i * 6),
-        direction: Vec3d::load_at(volume, 27 + i * 6),
+        start: vec3_at(volume, 24 + i as usize * 6),
+        direction: vec3_at(volume, 27 + i as usize * 6),
     }
 }
 
@@ -107,7 +138,7 @@ fn meets(ray: Ray, p0: Vec3d, p1: Vec3d, p2: Vec3d) -> bool
 
 // Whether one of the first lines of sight meets the triangle.
 fn line_meets(volume: &[f64], count: u32, p0: Vec3d, p1: Vec3d, p2: Vec3d) -> bool
-    requires { ⌜ count ≤ 4 ⌝ }
+    requires { ⌜ (count ≤ 4) × (length (now volume) ≡ 48) ⌝ }
     ensures { λ r. ⌜ r ≡ someHit (raysFrom (now (volume .entry)) 0 count) p0 p1 p2 ⌝ }
 {
     let mut i: u32 = 0;
@@ -120,16 +151,19 @@ fn line_meets(volume: &[f64], count: u32, p0: Vec3d, p1: Vec3d, p2: Vec3d) -> bo
     false
 }
 
-pub fn intersects_triangle(volume: &[f64], p0: Vec3d, p1: Vec3d, p2: Vec3d) -> bool
+// Whether a triangle is in view: a corner is, or some of a side, or it surrounds the view.
+pub(crate) fn intersects_triangle(volume: &[f64], p0: Vec3d, p1: Vec3d, p2: Vec3d) -> bool
+    requires { ⌜ length (now volume) ≡ 48 ⌝ }
     ensures { λ r. ⌜ r ≡ triangleOf (now (volume .entry)) p0 p1 p2 ⌝ }
 {
-    if !before_planes(volume, p0, p1, p2) {
+    let corners = corners_of(volume, p0, p1, p2);
+    if !corners.some {
         return false;
     }
-    if corner_in_view(volume, p0, p1, p2) {
+    if corners.side01.first | corners.side12.first | corners.side20.first {
         return true;
     }
-    if side_in_view(volume, p0, p1, p2) {
+    if side_in_view(volume, corners, p0, p1, p2) {
         return true;
     }
     line_meets(volume, sight_lines(volume, p0, p1, p2), p0, p1, p2)

@@ -1,7 +1,7 @@
 // Whether a box reaches into clip space.
 ghost use mathlib.Core.Path.{_≡_};
 ghost use Rattle.verdict.specs.Frustum.{viewVolumeOf};
-ghost use Rattle.verdict.specs.ViewVolume.{cornerUnder, passedBy, allSides};
+ghost use Rattle.verdict.specs.Passes.{cornerUnder, passedBy, allSides};
 use crate::bbox::BBox3d;
 use matrix::matrix::Mat4d;
 use matrix::range::Range3d;

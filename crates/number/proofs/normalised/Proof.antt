@@ -2,15 +2,15 @@
 -- Assumes nothing.
 use mathlib.Core.Path.{_≡_, refl, sym, ap, _∙_, subst}
 use Prim.Native.Nat.{ℕ, zero, suc, _+_, _-_, _*_, _/_, _%_, _^_, _≤_, _<_}
-use native.Mathlib.Nat.{mul-assoc, mul-comm, le-trans, le-of-eq, lt-of-lt-of-le, lt-of-le-of-lt, lt-of-not-le, not-le-of-lt, mul-le-mul-right, mod-lt, div-add-mod', mod-eq-of-lt, zero-lt-suc, div-lt-iff-lt-mul, le-refl}
+use native.Mathlib.Nat.{mul-assoc, le-trans, le-of-eq, lt-of-lt-of-le, lt-of-le-of-lt, lt-of-not-le, not-le-of-lt, mul-le-mul-right, mod-lt, div-add-mod', mod-eq-of-lt, zero-lt-suc, div-lt-iff-lt-mul}
 use native.Mathlib.Omega.{arith}
 use borrow.Author.Needs.{needs}
 use lib.Bits.{bitAnd, and-mask}
 use lib.Count.{leadingZeros, leading-top}
-use lib.Dec.{lit<}
 use lib.Pow.{pow-pos, pow-mono, pow-add, shl-lt}
-use lib.Ieee.{binary64, hid}
-use Rattle.number.specs.Bits.{Normalised, fieldUnits, unitsOf}
+use lib.Ieee.{binary64}
+use Rattle.number.specs.Bits.{Normalised, fieldUnits}
+use Rattle.number.proofs.Fields.{normal}
 use Rattle.number.proofs.normalised.Statement.{statement}
 use Rattle.number.proofs.normalised.Tie as tie
 
@@ -61,21 +61,6 @@ subnormal b a z e f s =
           mul-assoc a (2 ^ z) (2 ^ (52 - z)) ∙ ap (λ (i : ℕ). a * i) (sym (pow-add 2 z (52 - z)))
           ∙ ap (λ (i : ℕ). a * 2 ^ i) {x = z + (52 - z)} {y = 52} (omega (arith, s .some)) ∙ ap (λ (i : ℕ). i * 2 ^ 52) (e ∙ sym (ap (λ (i : ℕ). fieldUnits binary64 i (b % 2 ^ 52)) f));
     })
-
--- a field above 0
-normal : (b a x : ℕ) → a ≡ b % 2 ^ 52 → x ≡ b / 2 ^ 52 → 0 < x → x < 2047 → Normalised b (record { significand = 2 ^ 52 + a; scale = x + 51 })
-normal b a x e f p l = record {
-  leading = omega arith;
-  digits = omega (arith, mod-lt b (pow-pos 52));
-  scale = omega arith;
-  value = units x p ∙ ap (λ (i : ℕ). fieldUnits binary64 x i * 2 ^ 52) e ∙ ap (λ (i : ℕ). fieldUnits binary64 i (b % 2 ^ 52) * 2 ^ 52) f;
-}
-  where
-    units : (i : ℕ) → 0 < i → (2 ^ 52 + a) * 2 ^ (i + 51) ≡ fieldUnits binary64 i a * 2 ^ 52
-    units zero q = absurd (omega arith)
-    units (suc i) q =
-        ap (λ (j : ℕ). (2 ^ 52 + a) * 2 ^ j) {x = suc i + 51} {y = i + 52} (omega arith)
-        ∙ ap (λ (j : ℕ). (2 ^ 52 + a) * j) (pow-add 2 i 52) ∙ sym (mul-assoc (2 ^ 52 + a) (2 ^ i) (2 ^ 52))
 
 cast-zeros : tie.Need-cast-zeros
 cast-zeros c = let s = low (c .before .args .magnitude) (c .before .pre .0) (c .if1 .taken) in omega (arith, s .zeros, s .some)

@@ -1,5 +1,5 @@
 -- `matrix::divisor` meets its contract by its test. Assumes nothing.
-use mathlib.Core.Path.{_≡_, sym, ap, _∙_}
+use mathlib.Core.Path.{_≡_, _∙_}
 use mathlib.Core.Bool.{Bool, true, false, cond}
 use lib.Ieee.{Float, binary64, ofBits, eq}
 use Rattle.matrix.specs.Constants.{one}

@@ -1,7 +1,8 @@
--- `matrix_calls::product` meets its contract: the lengths by its tests, the result by what it calls. Assumes nothing.
-use mathlib.Core.Path.{_≡_, refl, ap, ap₂, _∙_}
+-- `matrix_calls::product` meets its contract: the lengths by its tests, the result row by row. Assumes nothing.
+use mathlib.Core.Path.{_≡_, refl, ap}
 use mathlib.Core.Bool.{_&&_}
 use mathlib.Core.List.{List}
+use denote.Ref.{now}
 use borrow.Author.Needs.{needs}
 use lib.Ieee.{Float}
 use Rattle.number.specs.Answer.{has}
@@ -9,6 +10,7 @@ use Rattle.matrix.specs.Matrix.{matrixOf, entries, product}
 use Rattle.matrix.specs.Calls.{productCall}
 use Rattle.number.specs.Answer.{writing}
 use Rattle.number.proofs.Calls.{no-first, no-second, no-room-for, written-from}
+use Rattle.matrix.proofs.Composed.{product-rows}
 use Rattle.matrix.proofs.matrix_calls.product.Statement.{statement}
 use Rattle.matrix.proofs.matrix_calls.product.Tie as tie
 
@@ -31,13 +33,25 @@ same-length c = search needs
 returns-4 : tie.Need-returns-4
 returns-4 c =
     let stored = c .before .before in
-    let made = stored .before .before in
-    let second = made .before in
-    let first = second .before in
-    let tests = first .before in
+    let row3 = stored .before .before in
+    let at3 = row3 .before in
+    let row2 = at3 .before in
+    let at2 = row2 .before in
+    let row1 = at2 .before in
+    let at1 = row1 .before in
+    let row0 = at1 .before in
+    let at0 = row0 .before in
+    let right = at0 .before in
+    let tests = right .before in
+    let args = tests .before .before .before .before .before .before .args in
     written-from 16 16 16 _ _ is _ _ _ _ _ _ (tests .before .before .if1 .left) (tests .before .if2 .left) (tests .if3 .left)
-    (stored .store .ensures) refl (ap entries (made .product .ensures ∙ ap₂ product (first .load .ensures) (second .load2 .ensures))) refl
+    (stored .store .ensures) refl
+    (ap entries (product-rows (now (args .a)) (now (args .b)) _ (right .load .ensures) _ _ _ _ _ _ _ _
+    (at0 .load-at .ensures) (at1 .load-at2 .ensures) (at2 .load-at3 .ensures) (at3 .load-at4 .ensures)
+    (row0 .transform-homogeneous .ensures) (row1 .transform-homogeneous2 .ensures) (row2 .transform-homogeneous3 .ensures) (row3 .transform-homogeneous4 .ensures)))
+    refl
 
 pub product-spec : {M : Type 1} → statement M
 product-spec =
-    tie.close (tie.spec returns returns-2 returns-3 (λ c κs. tt) (λ c κs. tt) (λ c κs. tt) (λ c κs. tt) same-length returns-4)
+    tie.close
+    (tie.spec returns returns-2 returns-3 (λ c κs. tt) (λ c κs. tt) (λ c κs. tt) (λ c κs. tt) (λ c κs. tt) (λ c κs. tt) (λ c κs. tt) (λ c κs. tt) (λ c κs. tt) (λ c κs. tt) same-length returns-4)

@@ -1,5 +1,5 @@
 -- `range::along` meets its contract by its two tests. Assumes nothing.
-use mathlib.Core.Path.{_≡_, sym, _∙_}
+use mathlib.Core.Path.{_≡_, _∙_}
 use mathlib.Core.Bool.{true, false}
 use lib.Ieee.{Float, lt}
 use Rattle.number.specs.Arithmetic.{_⊖_}

@@ -1,5 +1,5 @@
 -- `number::format::from_bits` meets its contract: a pattern is a NaN's if its magnitude is above infinity's. Assumes nothing.
-use mathlib.Core.Path.{_≡_, refl, sym, _∙_}
+use mathlib.Core.Path.{refl, sym, _∙_}
 use lib.Ieee.{binary64}
 use Rattle.number.proofs.Nan.{zero-by-zero}
 use Rattle.number.proofs.Patterns.{nan-pattern, number-pattern}

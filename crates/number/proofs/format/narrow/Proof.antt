@@ -1,13 +1,11 @@
 -- `number::format::narrow` meets its contract: the sign's bit goes above the bits of the rounded magnitude. Assumes nothing.
 use mathlib.Core.Path.{_≡_, refl, sym, ap, _∙_, subst}
 use mathlib.Core.Bool.{Bool, true, false, not, cond}
-use Prim.Native.Nat.{ℕ, zero, suc, _+_, _-_, _*_, _/_, _%_, _^_, _≤_, _<_}
-use native.Mathlib.Nat.{div-lt-iff-lt-mul, le-div-iff-mul-le}
+use Prim.Native.Nat.{ℕ, _+_, _*_, _/_, _%_, _^_, _≤_, _<_}
 use native.Mathlib.Omega.{arith}
 use borrow.Author.Needs.{needs}
 use lib.Dec.{T, leb, leb→le, nleb→lt}
-use lib.Pow.{pow-pos}
-use lib.Ieee.{Float, nan, inf, fin, binary32, binary64, isNan, fits, top, toBits, ofBits, nanBits, round}
+use lib.Ieee.{Float, inf, binary32, binary64, isNan, fits, top, toBits, ofBits, nanBits, round}
 use lib.Ieee.Bits.{nanBits-is, toBits-lt}
 use lib.Ieee.Exact.{HasValue}
 use Rattle.number.specs.Bits.{unitsOf}

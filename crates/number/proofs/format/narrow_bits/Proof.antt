@@ -1,13 +1,13 @@
 -- `number::format::narrow_bits` meets its contract: by the scale the result is nothing, subnormal, normal or too large (`proofs/Narrowing.antt`).
 -- Assumes nothing.
-use mathlib.Core.Path.{_≡_, refl, sym, ap, _∙_, subst}
-use mathlib.Core.Bool.{Bool, cond}
-use Prim.Native.Nat.{ℕ, zero, suc, _+_, _-_, _*_, _%_, _^_, _≤_, _<_, min}
-use native.Mathlib.Nat.{mod-eq-of-lt, le-trans, lt-of-lt-of-le}
+use mathlib.Core.Path.{_≡_, sym, ap, _∙_, subst}
+use mathlib.Core.Bool.{cond}
+use Prim.Native.Nat.{ℕ, _+_, _-_, _*_, _%_, _^_, _≤_, _<_, min}
+use native.Mathlib.Nat.{mod-eq-of-lt, lt-of-lt-of-le}
 use native.Mathlib.Omega.{arith}
 use borrow.Author.Needs.{needs}
 use lib.Pow.{pow-mono}
-use lib.Ieee.{binary32, binary64, hid, ones, top, ofBits, round}
+use lib.Ieee.{binary32, binary64, top, ofBits}
 use lib.Ieee.Nearest.{closest}
 use Rattle.number.specs.Bits.{unitsOf}
 use Rattle.number.specs.Format.{Narrowed}

@@ -1,6 +1,6 @@
 -- `number::format::to_bits_32` meets its contract: at a NaN it writes the pattern that `toBits` has. Assumes nothing.
 use mathlib.Core.Path.{_≡_, refl, sym, ap, _∙_}
-use lib.Ieee.{Float, nan, binary32, toBits}
+use lib.Ieee.{nan, binary32, toBits}
 use Rattle.number.proofs.Nan.{is-nan, not-nan, number}
 use Rattle.number.proofs.format.to_bits_32.Statement.{statement}
 use Rattle.number.proofs.format.to_bits_32.Tie as tie

@@ -1,5 +1,5 @@
 -- `number::format::widen` meets its contract: binary64 holds every value of binary32. Assumes nothing.
-use mathlib.Core.Path.{_≡_, sym, _∙_}
+use mathlib.Core.Path.{sym, _∙_}
 use mathlib.Core.Bool.{not}
 use borrow.Author.Needs.{needs}
 use lib.Ieee.{binary64, fits, isNan}

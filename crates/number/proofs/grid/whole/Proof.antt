@@ -2,7 +2,7 @@
 -- Assumes nothing.
 use mathlib.Core.Path.{_≡_, refl, sym, ap, _∙_, subst}
 use mathlib.Core.Bool.{Bool, true, false}
-use Prim.Native.Nat.{ℕ, zero, suc, _+_, _-_, _*_, _^_, _≤_, _<_}
+use Prim.Native.Nat.{ℕ, zero, suc, _-_, _*_, _^_, _≤_, _<_}
 use native.Mathlib.Decide.{decLt}
 use native.Mathlib.Nat.{le-trans, le-of-eq, lt-of-lt-of-le, pow-succ', mul-lt-mul-of-pos-left, zero-lt-suc}
 use native.Mathlib.Omega.{arith}
@@ -10,16 +10,13 @@ use borrow.Author.Needs.{needs}
 use lib.Dec.{T, ltb, lt→ltb}
 use lib.IntN.{ℤ, pos, negsuc, negℤ, _-ℤ_, +ℤ-idl}
 use lib.Pow.{pow-pos, pow-add}
-use lib.Ieee.{Float, inf, binary64, isNan, fits, toBits}
+use lib.Ieee.{Float, binary64, isNan, fits}
 use lib.Ieee.Bits.{is-true}
-use lib.Ieee.Exact.{HasValue}
 use mir.Syntax.{w32}
-use mir.Val.{SFits, toZ, ofZ, sel}
+use mir.Val.{SFits, toZ, sel}
 use mir.ValLaws.{toZ-ofZ}
 use Rattle.number.specs.Bits.{unitsOf}
 use Rattle.number.specs.Grid.{wholeNearest, gridLimit, placed}
-use Rattle.number.specs.Whole.{signed}
-use Rattle.number.specs.declared.grid.Coordinate.{Coordinate}
 use Rattle.number.specs.declared.grid.Coordinate.the-variants.{On, Off}
 use Rattle.number.proofs.Centimetres.{whole-ge, whole-zero, coordinate, placed-value, placed-nan, placed-inf, off, on, zero-on, units-ge, units-lt, scale-ge, scale-lt, same-fraction}
 use Rattle.number.proofs.Nan.{is-nan, not-nan, number}

@@ -1,12 +1,12 @@
 -- `number::root::sqrt` meets its contract: each way out is a law of `proofs/SquareRoot.antt`, at what the bits say of x. Assumes nothing.
-use mathlib.Core.Path.{_≡_, refl, sym, ap, _∙_, subst}
-use mathlib.Core.Bool.{Bool, true, false, not, cond}
+use mathlib.Core.Path.{_≡_, sym, ap, _∙_, subst}
+use mathlib.Core.Bool.{Bool, true, false, not}
 use Prim.Native.Nat.{ℕ, _*_, _^_, _≤_, _<_}
 use native.Mathlib.Decide.{decLt}
 use native.Mathlib.Omega.{arith}
 use borrow.Author.Needs.{needs}
 use lib.Dec.{T}
-use lib.Ieee.{Float, nan, inf, binary64, isNan, fits, toBits, nanBits}
+use lib.Ieee.{Float, nan, inf, binary64, isNan, fits, toBits}
 use lib.Ieee.Bits.{nanBits-is}
 use lib.Ieee.Exact.{HasValue}
 use Rattle.number.specs.Bits.{unitsOf}

@@ -1,5 +1,5 @@
 -- `number::slice::at` meets its contract: past the end `getD` gives its default. Assumes nothing.
-use mathlib.Core.Path.{_≡_, sym, _∙_}
+use mathlib.Core.Path.{sym, _∙_}
 use borrow.Author.Needs.{needs}
 use lib.ListN.{List·getD-eq-default}
 use lib.Ieee.{nan}

@@ -1,10 +1,11 @@
 -- `bbox_calls::centroid` meets its contract: the lengths and the flag by its tests, the result by what it calls. Assumes nothing.
 use mathlib.Core.Path.{_≡_, refl, ap, _∙_}
-use mathlib.Core.Bool.{Bool, true, false}
+use mathlib.Core.Bool.{true, false}
 use mathlib.Core.List.{List}
 use borrow.Author.Needs.{needs}
 use lib.Ieee.{Float}
 use lib.ListN.{length}
+use borrow.Author.Needs.{needs}
 use Rattle.number.specs.Answer.{refuse, write, unless, has, leaving}
 use Rattle.number.proofs.Calls.{no-input, no-room, left, written}
 use Rattle.number.proofs.Refusals.{stops, passes}
@@ -56,4 +57,4 @@ returns-4 c =
 
 pub centroid-spec : {M : Type 1} → statement M
 centroid-spec =
-    tie.close (tie.spec returns returns-2 (λ c κs. tt) (λ c κs. tt) returns-3 (λ c κs. tt) (λ c κs. tt) (λ c κs. tt) same-length returns-4)
+    tie.close (tie.spec returns returns-2 (λ c κs. tt) (λ c κs. tt) returns-3 (λ c κs. search needs) (λ c κs. tt) (λ c κs. tt) same-length returns-4)

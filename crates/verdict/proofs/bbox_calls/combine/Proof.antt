@@ -5,6 +5,7 @@ use mathlib.Core.List.{List}
 use borrow.Author.Needs.{needs}
 use lib.Ieee.{Float}
 use lib.ListN.{length}
+use borrow.Author.Needs.{needs}
 use Rattle.number.specs.Answer.{refuse, write, unless, has, leaving}
 use Rattle.number.proofs.Calls.{no-first, no-second, no-room-for, left-from, written-from}
 use Rattle.number.proofs.Refusals.{stops, passes}
@@ -86,5 +87,5 @@ returns-6 c =
 pub combine-spec : {M : Type 1} → statement M
 combine-spec =
     tie.close
-    (tie.spec returns returns-2 returns-3 (λ c κs. tt) (λ c κs. tt) returns-4 (λ c κs. tt) (λ c κs. tt) returns-5 (λ c κs. tt) (λ c κs. tt) (λ c κs. tt)
+    (tie.spec returns returns-2 returns-3 (λ c κs. tt) (λ c κs. tt) returns-4 (λ c κs. tt) (λ c κs. tt) returns-5 (λ c κs. search needs) (λ c κs. search needs) (λ c κs. tt)
     (λ c κs. tt) same-length returns-6)

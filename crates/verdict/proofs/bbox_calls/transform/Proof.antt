@@ -1,10 +1,11 @@
 -- `bbox_calls::transform` meets its contract: the lengths and the flag by its tests, the result by what it calls. Assumes nothing.
 use mathlib.Core.Path.{_≡_, refl, ap, ap₂, _∙_}
-use mathlib.Core.Bool.{Bool, true, false, _&&_}
+use mathlib.Core.Bool.{true, false, _&&_}
 use mathlib.Core.List.{List}
 use borrow.Author.Needs.{needs}
 use lib.Ieee.{Float}
 use lib.ListN.{length}
+use borrow.Author.Needs.{needs}
 use Rattle.number.specs.Answer.{refuse, write, unless, has, leaving}
 use Rattle.number.proofs.Calls.{no-first, no-second, no-room-for, left-from, written-from}
 use Rattle.number.proofs.Refusals.{stops, passes}
@@ -63,4 +64,4 @@ returns-5 c =
 pub transform-spec : {M : Type 1} → statement M
 transform-spec =
     tie.close
-    (tie.spec returns returns-2 returns-3 (λ c κs. tt) (λ c κs. tt) returns-4 (λ c κs. tt) (λ c κs. tt) (λ c κs. tt) (λ c κs. tt) same-length returns-5)
+    (tie.spec returns returns-2 returns-3 (λ c κs. tt) (λ c κs. tt) returns-4 (λ c κs. search needs) (λ c κs. tt) (λ c κs. tt) (λ c κs. tt) same-length returns-5)

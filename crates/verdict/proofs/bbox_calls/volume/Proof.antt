@@ -3,6 +3,7 @@ use mathlib.Core.Path.{_≡_, refl, ap, _∙_}
 use mathlib.Core.List.{List}
 use lib.Ieee.{Float}
 use lib.ListN.{length}
+use borrow.Author.Needs.{needs}
 use Rattle.number.specs.Answer.{Outcome, refused, result, unless, has}
 use Rattle.number.proofs.Refusals.{has-yes, has-no, stops, passes}
 use Rattle.verdict.specs.BBox.{boxOf, volume}
@@ -43,4 +44,4 @@ returns-3 c =
     (passes (flagged b) (refused 3) _ _ (is-flag b _ _ (f .before .at .ensures) (f .is-flag .ensures) (e .if2 .left)) (ap result (c .volume .ensures ∙ ap volume (l .load .ensures))))
 
 pub volume-spec : {M : Type 1} → statement M
-volume-spec = tie.close (tie.spec returns (λ c κs. tt) (λ c κs. tt) returns-2 (λ c κs. tt) (λ c κs. tt) returns-3)
+volume-spec = tie.close (tie.spec returns (λ c κs. tt) (λ c κs. tt) returns-2 (λ c κs. search needs) (λ c κs. tt) returns-3)

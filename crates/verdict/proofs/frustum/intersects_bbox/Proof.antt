@@ -82,4 +82,4 @@ returns-3 c =
 pub intersects-bbox-spec : {M : Type 1} → statement M
 intersects-bbox-spec =
     tie.close
-    (tie.spec Inv-loop μ-loop (λ c κs. tt) returns (λ c κs. tt) loop-holds (λ c κs. tt) (λ c κs. tt) (λ c κs. tt) returns-2 add-i loop-less loop-again returns-3)
+    (tie.spec Inv-loop μ-loop (λ c κs. tt) returns (λ c κs. tt) loop-holds (λ c κs. (omega arith, search needs)) (λ c κs. tt) (λ c κs. tt) returns-2 add-i loop-less loop-again returns-3)

@@ -49,4 +49,4 @@ returns-2 : tie.Need-returns-2 Inv-loop μ-loop
 returns-2 c = let l = c .before .loop in all-hold (test _) _ (l .i) (omega arith) ∙ l .inv .1
 
 pub intersects-point-spec : {M : Type 1} → statement M
-intersects-point-spec = tie.close (tie.spec Inv-loop μ-loop loop-holds (λ c κs. tt) (λ c κs. tt) returns add-i loop-less loop-again returns-2)
+intersects-point-spec = tie.close (tie.spec Inv-loop μ-loop loop-holds (λ c κs. (omega arith, search needs)) (λ c κs. tt) returns add-i loop-less loop-again returns-2)

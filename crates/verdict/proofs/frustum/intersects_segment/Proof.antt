@@ -1,62 +1,43 @@
--- `frustum::intersects_segment` meets its contract: what is left of the segment and the planes left decide. Assumes nothing.
-use mathlib.Core.Path.{_≡_, _∙_}
-use Prim.Native.Nat.{_-_, _≤_}
-use native.Mathlib.Omega.{arith}
+-- `frustum::intersects_segment` meets its contract: its tests are those of the definition, in their order. Assumes nothing.
+use mathlib.Core.Path.{_≡_, refl, sym, _∙_}
+use mathlib.Core.Bool.{Bool, true, false, _&&_, _||_}
+use mathlib.Core.List.{List}
 use borrow.Author.Needs.{needs}
-use lib.Count.{trailingZeros}
-use lib.Ieee.{ofBits, round, units, odd, size, span, climb}
-use Rattle.verdict.specs.Frustum.{segmentOf, planesOf}
-use Rattle.verdict.proofs.PlanesLeft.{planesLeft}
-use Rattle.verdict.proofs.SegmentLeft.{remaining, begins, behind, goes-on, ends}
+use Rattle.matrix.specs.Constants.{positiveZero, one}
+use Rattle.matrix.specs.declared.vec.Vec3d.{Vec3d}
+use Rattle.verdict.specs.declared.plane.Plane.{Plane}
+use Rattle.verdict.specs.declared.frustum.Ends.{Ends}
+use Rattle.verdict.specs.Frustum.{planesOf, spanLeft, segmentOf}
+use Rattle.verdict.specs.Passes.{endsOf}
+use Rattle.verdict.proofs.Flags.{negated}
 use Rattle.verdict.proofs.frustum.intersects_segment.Statement.{statement}
 use Rattle.verdict.proofs.frustum.intersects_segment.Tie as tie
 
-abbrev Inv-loop : tie.InvT-loop
-Inv-loop volume a b along span₀ i₀ span i = (i ≤ 6) × (remaining a b (planesLeft volume i) span ≡ segmentOf (planesOf volume) a b)
+settled : (ps : List Plane) (a b : Vec3d) (e : Ends) (x y w : Bool) → e ≡ endsOf ps a b → e .some ≡ x → (e .first || e .second) ≡ y → w ≡ spanLeft ps a b positiveZero one
+    → (x && (y || w)) ≡ segmentOf ps a b
+unfolding segmentOf
+settled ps a b e x y w q n m p = sym (λ t. n t && (m t || w)) ∙ (λ t. q t .some && (q t .first || q t .second || p t))
 
-abbrev μ-loop : tie.MeasureT-loop
-μ-loop volume a b along span₀ i₀ span i = 6 - i
-
-loop-holds : tie.Need-loop-holds Inv-loop μ-loop
-unfolding ofBits round units odd size span climb trailingZeros
-loop-holds c =
-    let args = c .before .before .args in
-    (omega arith, begins (args .a) (args .b) _)
-
-returns : tie.Need-returns Inv-loop μ-loop
-unfolding ofBits round
+returns : tie.Need-returns
 returns c =
-    let to-b = c .before in
-    let to-a = to-b .before in
-    let at = to-a .before in
-    let at-loop = at .before .before in
-    let l = at-loop .loop in
-    behind _ _ _ (l .i) (l .span) _ _ _ _ (omega arith) (at .plane-at .ensures) (to-a .distance .ensures) (to-b .distance2 .ensures) (at-loop .before .sub .ensures) (c .if1 .taken) ∙ l .inv .1
+    let found = c .before .before in
+    let g = found .before .before .args in
+    settled (planesOf (g .volume .now)) (g .a) (g .b) _ false _ _ (found .ends-of .ensures) (negated _ true (c .if1 .taken)) refl refl
 
-add-i : tie.Need-add-i Inv-loop μ-loop
-add-i c = search needs
+returns-2 : tie.Need-returns-2
+returns-2 c =
+    let some = c .before .before in
+    let found = some .before .before in
+    let g = found .before .before .args in
+    settled (planesOf (g .volume .now)) (g .a) (g .b) _ true true _ (found .ends-of .ensures) (negated _ false (some .if1 .left)) (c .if2 .taken) refl
 
-loop-less : tie.Need-loop-less Inv-loop μ-loop
-loop-less c = search needs
-
-loop-again : tie.Need-loop-again Inv-loop μ-loop
-unfolding ofBits round
-loop-again c =
-    let tested = c .before in
-    let to-b = tested .before in
-    let to-a = to-b .before in
-    let at = to-a .before in
-    let at-loop = at .before .before in
-    let l = at-loop .loop in (
-      omega arith,
-      goes-on _ _ _ (l .i) (l .span) _ _ _ _ (omega arith) (at .plane-at .ensures) (to-a .distance .ensures) (to-b .distance2 .ensures) (at-loop .before .sub .ensures)
-          _ (tested .if1 .left) (c .past .ensures) ∙ l .inv .1,
-    )
-
-returns-2 : tie.Need-returns-2 Inv-loop μ-loop
-returns-2 c = let l = c .before .before .before .loop in ends _ _ _ (l .i) (l .span) (omega arith) ∙ l .inv .1
+returns-3 : tie.Need-returns-3
+returns-3 c =
+    let outside = c .before in
+    let some = outside .before .before in
+    let found = some .before .before in
+    let g = found .before .before .args in
+    settled (planesOf (g .volume .now)) (g .a) (g .b) _ true false _ (found .ends-of .ensures) (negated _ false (some .if1 .left)) (outside .if2 .left) (c .span-left .ensures)
 
 pub intersects-segment-spec : {M : Type 1} → statement M
-intersects-segment-spec =
-    tie.close
-    (tie.spec Inv-loop μ-loop (λ c κs. tt) loop-holds (λ c κs. tt) (λ c κs. tt) (λ c κs. tt) returns (λ c κs. tt) add-i loop-less loop-again returns-2)
+intersects-segment-spec = tie.close (tie.spec (λ c κs. search needs) returns returns-2 (λ c κs. search needs) returns-3)

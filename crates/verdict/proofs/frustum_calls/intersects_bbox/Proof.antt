@@ -4,6 +4,7 @@ use mathlib.Core.Bool.{Bool, true, false, _&&_}
 use mathlib.Core.List.{List}
 use borrow.Author.Tests.{eq-eqb, ne-eqb}
 use lib.Ieee.{Float}
+use borrow.Author.Needs.{needs}
 use Rattle.number.specs.Answer.{Outcome, refused, result, unless, has}
 use Rattle.number.proofs.Refusals.{stops, passes}
 use Rattle.verdict.specs.BBox.{boxOf as loadedBox}
@@ -57,4 +58,4 @@ returns-4 c =
 
 pub intersects-bbox-spec : {M : Type 1} → statement M
 intersects-bbox-spec =
-    tie.close (tie.spec returns returns-2 (λ c κs. tt) (λ c κs. tt) returns-3 (λ c κs. tt) (λ c κs. tt) (λ c κs. tt) returns-4)
+    tie.close (tie.spec returns returns-2 (λ c κs. tt) (λ c κs. tt) returns-3 (λ c κs. search needs) (λ c κs. search needs) (λ c κs. tt) returns-4)

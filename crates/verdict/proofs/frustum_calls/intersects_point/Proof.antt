@@ -1,9 +1,10 @@
 -- `frustum_calls::intersects_point` meets its contract: the lengths by its tests, the result by what it calls. Assumes nothing.
 use mathlib.Core.Path.{refl, ap, _∙_}
 use borrow.Author.Tests.{eq-eqb, ne-eqb}
+use borrow.Author.Needs.{needs}
 use Rattle.verdict.specs.Frustum.{pointOf}
 use Rattle.verdict.specs.FrustumCalls.{intersectsPointCall}
-use Rattle.verdict.proofs.Calls.{no-answer, answered}
+use Rattle.number.proofs.Ways.{no-answer, answered}
 use Rattle.verdict.proofs.Same.{both}
 use Rattle.verdict.proofs.frustum_calls.intersects_point.Statement.{statement}
 use Rattle.verdict.proofs.frustum_calls.intersects_point.Tie as tie
@@ -27,4 +28,4 @@ returns-3 c =
     (asked .intersects-point .ensures ∙ ap (pointOf _) (point .load .ensures))
 
 pub intersects-point-spec : {M : Type 1} → statement M
-intersects-point-spec = tie.close (tie.spec returns returns-2 (λ c κs. tt) (λ c κs. tt) (λ c κs. tt) returns-3)
+intersects-point-spec = tie.close (tie.spec returns returns-2 (λ c κs. tt) (λ c κs. search needs) (λ c κs. tt) returns-3)

@@ -1,9 +1,10 @@
 -- `frustum_calls::intersects_segment` meets its contract: the lengths by its tests, the result by what it calls. Assumes nothing.
 use mathlib.Core.Path.{refl, ap₂, _∙_}
 use borrow.Author.Tests.{eq-eqb, ne-eqb}
+use borrow.Author.Needs.{needs}
 use Rattle.verdict.specs.Frustum.{segmentOf}
 use Rattle.verdict.specs.FrustumCalls.{intersectsSegmentCall}
-use Rattle.verdict.proofs.Calls.{no-answer, answered}
+use Rattle.number.proofs.Ways.{no-answer, answered}
 use Rattle.verdict.proofs.Same.{both}
 use Rattle.verdict.proofs.frustum_calls.intersects_segment.Statement.{statement}
 use Rattle.verdict.proofs.frustum_calls.intersects_segment.Tie as tie
@@ -32,4 +33,4 @@ returns-4 c =
     (asked .intersects-segment .ensures ∙ ap₂ (segmentOf _) (first .load .ensures) (second .load2 .ensures))
 
 pub intersects-segment-spec : {M : Type 1} → statement M
-intersects-segment-spec = tie.close (tie.spec returns returns-2 returns-3 (λ c κs. tt) (λ c κs. tt) (λ c κs. tt) (λ c κs. tt) returns-4)
+intersects-segment-spec = tie.close (tie.spec returns returns-2 returns-3 (λ c κs. tt) (λ c κs. tt) (λ c κs. search needs) (λ c κs. tt) returns-4)

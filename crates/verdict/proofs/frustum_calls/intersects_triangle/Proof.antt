@@ -1,9 +1,10 @@
 -- `frustum_calls::intersects_triangle` meets its contract: the lengths by its tests, the result by what it calls. Assumes nothing.
 use mathlib.Core.Path.{refl, sym, _∙_}
 use borrow.Author.Tests.{eq-eqb, ne-eqb}
+use borrow.Author.Needs.{needs}
 use Rattle.verdict.specs.Frustum.{triangleOf}
 use Rattle.verdict.specs.FrustumCalls.{intersectsTriangleCall}
-use Rattle.verdict.proofs.Calls.{no-answer, answered}
+use Rattle.number.proofs.Ways.{no-answer, answered}
 use Rattle.verdict.proofs.Same.{both, same-three}
 use Rattle.verdict.proofs.frustum_calls.intersects_triangle.Statement.{statement}
 use Rattle.verdict.proofs.frustum_calls.intersects_triangle.Tie as tie
@@ -48,4 +49,4 @@ returns-6 c =
 
 pub intersects-triangle-spec : {M : Type 1} → statement M
 intersects-triangle-spec =
-    tie.close (tie.spec returns returns-2 returns-3 returns-4 (λ c κs. tt) (λ c κs. tt) (λ c κs. tt) (λ c κs. tt) returns-5 returns-6)
+    tie.close (tie.spec returns returns-2 returns-3 returns-4 (λ c κs. tt) (λ c κs. tt) (λ c κs. tt) (λ c κs. search needs) returns-5 returns-6)

@@ -4,6 +4,7 @@ use mathlib.Core.Bool.{Bool, true, false, _&&_}
 use mathlib.Core.List.{List}
 use lib.Ieee.{Float}
 use lib.ListN.{length}
+use borrow.Author.Needs.{needs}
 use Rattle.matrix.specs.Matrix.{matrixOf}
 use Rattle.number.specs.Answer.{Outcome, refused, result, unless, has}
 use Rattle.number.proofs.Refusals.{has-yes, has-no, stops, passes}
@@ -79,4 +80,4 @@ returns-5 c =
 
 pub intersects-view-volume-spec : {M : Type 1} → statement M
 intersects-view-volume-spec =
-    tie.close (tie.spec returns returns-2 (λ c κs. tt) (λ c κs. tt) returns-3 (λ c κs. tt) (λ c κs. tt) (λ c κs. tt) returns-4 returns-5)
+    tie.close (tie.spec returns returns-2 (λ c κs. tt) (λ c κs. tt) returns-3 (λ c κs. search needs) (λ c κs. tt) (λ c κs. tt) returns-4 returns-5)

@@ -3,7 +3,7 @@ use mathlib.Core.Path.{refl, sym, ap₂, _∙_}
 use borrow.Author.Tests.{eq-eqb, ne-eqb}
 use Rattle.verdict.specs.Plane.{onPositiveSide}
 use Rattle.verdict.specs.Calls.{sideCall}
-use Rattle.verdict.proofs.Calls.{no-answer, answered}
+use Rattle.number.proofs.Ways.{no-answer, answered}
 use Rattle.verdict.proofs.Same.{both}
 use Rattle.verdict.proofs.plane_calls.on_positive_side.Statement.{statement}
 use Rattle.verdict.proofs.plane_calls.on_positive_side.Tie as tie

@@ -1,23 +1,30 @@
--- `projection::close_to` meets its contract: row by row by that of `close_row`. Assumes nothing.
-use mathlib.Core.Path.{_≡_, _∙_}
+-- `projection::close_to` meets its contract: number by number by that of `close`. Assumes nothing.
 use mathlib.Core.Bool.{_&&_}
-use Rattle.matrix.specs.declared.matrix.Mat4d.{Mat4d}
-use Rattle.matrix.specs.Matrix.{entries}
-use Rattle.verdict.proofs.Same.{both, sixteen}
-use Rattle.verdict.specs.Projection.{everyBelow, closeAt, closeRow, closeTo}
+use Rattle.verdict.specs.Projection.{everyBelow, closeTo}
 use Rattle.verdict.proofs.projection.close_to.Statement.{statement}
 use Rattle.verdict.proofs.projection.close_to.Tie as tie
 
-rows : (g b : Mat4d) → (closeRow (g .r0) (b .r0) && closeRow (g .r1) (b .r1) && closeRow (g .r2) (b .r2) && closeRow (g .r3) (b .r3)) ≡ closeTo g b
-unfolding closeRow closeTo everyBelow
-rows g b = sixteen (closeAt (entries g) (entries b))
-
 returns : tie.Need-returns
+unfolding closeTo everyBelow
 returns c =
-    let third = c .before in
-    let second = third .before in
-    let first = second .before in
-    both (both (both (first .close-row .ensures) (second .close-row2 .ensures)) (third .close-row3 .ensures)) (c .close-row4 .ensures) ∙ rows _ _
+    let c14 = c .before in
+    let c13 = c14 .before in
+    let c12 = c13 .before in
+    let c11 = c12 .before in
+    let c10 = c11 .before in
+    let c9 = c10 .before in
+    let c8 = c9 .before in
+    let c7 = c8 .before in
+    let c6 = c7 .before in
+    let c5 = c6 .before in
+    let c4 = c5 .before in
+    let c3 = c4 .before in
+    let c2 = c3 .before in
+    let c1 = c2 .before in
+    let c0 = c1 .before in
+    λ t. c0 .close .ensures t && c1 .close2 .ensures t && c2 .close3 .ensures t && c3 .close4 .ensures t && c4 .close5 .ensures t && c5 .close6 .ensures t && c6 .close7 .ensures t && c7 .close8 .ensures t && c8 .close9 .ensures t && c9 .close10 .ensures t && c10 .close11 .ensures t && c11 .close12 .ensures t && c12 .close13 .ensures t && c13 .close14 .ensures t && c14 .close15 .ensures t && c .close16 .ensures t
 
 pub close-to-spec : {M : Type 1} → statement M
-close-to-spec = tie.close (tie.spec (λ c κs. tt) (λ c κs. tt) (λ c κs. tt) (λ c κs. tt) returns)
+close-to-spec =
+    tie.close
+    (tie.spec (λ c κs. tt) (λ c κs. tt) (λ c κs. tt) (λ c κs. tt) (λ c κs. tt) (λ c κs. tt) (λ c κs. tt) (λ c κs. tt) (λ c κs. tt) (λ c κs. tt) (λ c κs. tt) (λ c κs. tt) (λ c κs. tt) (λ c κs. tt) (λ c κs. tt) (λ c κs. tt) returns)

@@ -4,7 +4,8 @@ use borrow.Author.Needs.{needs}
 use borrow.Author.Tests.{eq-eqb, ne-eqb}
 use Rattle.verdict.specs.Projection.{recovered, recoveredNumbers}
 use Rattle.verdict.specs.Calls.{recoveryCall}
-use Rattle.verdict.proofs.Calls.{no-input, no-room, left, written, same-reply}
+use Rattle.number.proofs.Ways.{no-input, no-room, left, written}
+use Rattle.verdict.proofs.Calls.{same-reply}
 use Rattle.verdict.proofs.projection_calls.from_matrix.Statement.{statement}
 use Rattle.verdict.proofs.projection_calls.from_matrix.Tie as tie
 

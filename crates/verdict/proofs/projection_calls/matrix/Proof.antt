@@ -7,7 +7,8 @@ use Rattle.matrix.specs.declared.matrix.Mat4d.{Mat4d}
 use Rattle.matrix.specs.Matrix.{entries}
 use Rattle.verdict.specs.Projection.{builtNumbers}
 use Rattle.verdict.specs.Calls.{projectionCall}
-use Rattle.verdict.proofs.Calls.{no-input, no-room, left, written, same-reply}
+use Rattle.number.proofs.Ways.{no-input, no-room, left, written}
+use Rattle.verdict.proofs.Calls.{same-reply}
 use Rattle.verdict.proofs.projection_calls.matrix.Statement.{statement}
 use Rattle.verdict.proofs.projection_calls.matrix.Tie as tie
 

@@ -12,7 +12,8 @@ use Rattle.verdict.specs.declared.ray.TriangleHit.{TriangleHit}
 use Rattle.verdict.specs.declared.ray.TriangleHit.the-variants.{Hit}
 use Rattle.verdict.specs.Ray.{frontFlag, triangleHit, triangleHitNumbers}
 use Rattle.verdict.specs.Calls.{replied, triangleHitCall}
-use Rattle.verdict.proofs.Calls.{no-input, no-room, left, written, same-reply}
+use Rattle.number.proofs.Ways.{no-input, no-room, left, written}
+use Rattle.verdict.proofs.Calls.{same-reply}
 use Rattle.verdict.proofs.Same.{both}
 use Rattle.verdict.proofs.ray_calls.intersect_triangle.Statement.{statement}
 use Rattle.verdict.proofs.ray_calls.intersect_triangle.Tie as tie

@@ -46,7 +46,7 @@ loop-holds : tie.Need-loop-holds Inv-loop μ-loop
 loop-holds c = (omega arith, all-left _ _ _ _ _)
 
 ray-at-requires : tie.Need-ray-at-requires Inv-loop μ-loop
-ray-at-requires c κs = omega arith
+ray-at-requires c κs = (omega arith, search needs)
 
 returns : tie.Need-returns Inv-loop μ-loop
 returns c =

@@ -2,6 +2,8 @@
 use mathlib.Core.Path.{_≡_, sym, ap, _∙_}
 use mathlib.Core.Bool.{Bool, true, false, cond, _&&_}
 use mathlib.Core.List.{List}
+use native.Mathlib.Omega.{arith}
+use borrow.Author.Needs.{needs}
 use lib.Ieee.{Float}
 use Rattle.matrix.specs.declared.vec.Vec3d.{Vec3d}
 use Rattle.verdict.specs.Frustum.{every, planeAt, planesFrom, hasCorners, sightLines}
@@ -43,4 +45,4 @@ returns-3 c =
     not-first (a .volume .now) (a .p0) (a .p1) (a .p2) (sym (c .if1 .left) ∙ p .has-corners .ensures ∙ ap (hasCorners (a .p0) (a .p1) (a .p2)) (p .before .plane-at .ensures))
 
 pub sight-lines-spec : {M : Type 1} → statement M
-sight-lines-spec = tie.close (tie.spec (λ c κs. tt) (λ c κs. tt) (λ c κs. tt) (λ c κs. tt) returns returns-2 returns-3)
+sight-lines-spec = tie.close (tie.spec (λ c κs. (omega arith, search needs)) (λ c κs. tt) (λ c κs. (omega arith, search needs)) (λ c κs. tt) returns returns-2 returns-3)

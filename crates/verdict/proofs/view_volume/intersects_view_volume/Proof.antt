@@ -13,7 +13,7 @@ use Rattle.verdict.specs.declared.bbox.BBox3d.{BBox3d}
 use Rattle.verdict.specs.declared.view_volume.Sides.{Sides}
 use Rattle.verdict.specs.Projection.{everyBelow}
 use Rattle.verdict.specs.Frustum.{someBelow, viewVolumeOf}
-use Rattle.verdict.specs.ViewVolume.{cornerUnder, passedBy, passedOf, allSides}
+use Rattle.verdict.specs.Passes.{cornerUnder, passedBy, passedOf, allSides}
 use Rattle.verdict.proofs.view_volume.intersects_view_volume.Statement.{statement}
 use Rattle.verdict.proofs.view_volume.intersects_view_volume.Tie as tie
 

@@ -1,9 +1,4 @@
 -- `Mat4d::inverse` meets its contract: that of `inverse_above` at 1e-12. Assumes nothing.
-use mathlib.Core.Path.{_≡_}
-use lib.Ieee.{binary64, ofBits}
-use Rattle.matrix.specs.declared.matrix.Mat4d.{Mat4d}
-use Rattle.matrix.specs.declared.inverse.Inverted.{Inverted}
-use Rattle.matrix.specs.Inverse.{inverseAbove, inverse}
 use Rattle.matrix.proofs.Literals.{singular-bits}
 use Rattle.matrix.proofs.matrix.Mat4d.inverse.Statement.{statement}
 use Rattle.matrix.proofs.matrix.Mat4d.inverse.Tie as tie

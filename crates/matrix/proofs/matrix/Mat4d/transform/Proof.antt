@@ -1,5 +1,5 @@
 -- `Mat4d::transform` meets its contract: the point moved, times the reciprocal of its divisor. Assumes nothing.
-use mathlib.Core.Path.{_≡_, ap, _∙_}
+use mathlib.Core.Path.{_≡_}
 use lib.Ieee.{Float, binary64, ofBits}
 use Rattle.number.specs.Arithmetic.{_⊘_}
 use Rattle.matrix.specs.declared.vec.Vec3d.{Vec3d}

@@ -4,7 +4,6 @@ use mathlib.Core.Bool.{cond}
 use Prim.Native.Nat.{ℕ, _/_, _%_, _^_}
 use native.Mathlib.Nat.{div-one}
 use lib.Dec.{eqb}
-use lib.Ieee.{Float}
 use Rattle.matrix.specs.declared.range.Range3d.{Range3d}
 use Rattle.matrix.proofs.Same.{same-vec3}
 use Rattle.matrix.proofs.range.Range3d.corner.Statement.{statement}

@@ -1,6 +1,5 @@
 -- `Range3d::highest` meets its contract: axis by axis by that of `max`. Assumes nothing.
-use Rattle.matrix.specs.Matrix.{sumFrom}
-use Rattle.matrix.specs.Range.{reach}
+use Rattle.matrix.specs.Range.{sumFrom, reach}
 use Rattle.matrix.proofs.Same.{same-sum}
 use Rattle.matrix.proofs.range.Range3d.highest.Statement.{statement}
 use Rattle.matrix.proofs.range.Range3d.highest.Tie as tie
@@ -9,7 +8,7 @@ returns : tie.Need-returns
 unfolding reach sumFrom
 returns c =
     let second = c .before .before .before .before .before in
-    let first = second .before .before .before .before .before in
+    let first = second .before .before .before .before .before .before in
     same-sum _ (first .max .ensures) (second .max2 .ensures) (c .max3 .ensures)
 
 pub highest-spec : {M : Type 1} → statement M

@@ -1,20 +1,10 @@
--- `Vec3d::normalize` meets its contract: what it calls gives the factor. Assumes nothing.
-use mathlib.Core.Path.{_≡_}
-use lib.Ieee.{Float, binary64, ofBits}
-use Rattle.number.specs.Arithmetic.{_⊘_, maxOf}
-use Rattle.matrix.specs.declared.vec.Vec3d.{Vec3d}
-use Rattle.matrix.specs.Vec.{multiple, lengthOf, normalized}
-use Rattle.matrix.proofs.Literals.{one-bits, min-length-bits}
+-- `Vec3d::normalize` meets its contract by what it calls. Assumes nothing.
+use Rattle.matrix.proofs.Length.{by-length}
 use Rattle.matrix.proofs.vec.Vec3d.normalize.Statement.{statement}
 use Rattle.matrix.proofs.vec.Vec3d.normalize.Tie as tie
 
-done : (v u : Vec3d) (l m : Float) → u ≡ multiple v (ofBits binary64 0x3ff0_0000_0000_0000 ⊘ m) → m ≡ maxOf l (ofBits binary64 0x3ddb_7cdf_d9d7_bdbb)
-    → l ≡ lengthOf v → u ≡ normalized v
-unfolding normalized
-done v u l m p q r = rw (p, one-bits, q, min-length-bits, r)
-
 returns : tie.Need-returns
-returns c = done _ _ _ _ (c .scale .ensures) (c .before .max .ensures) (c .before .before .length .ensures)
+returns c = by-length _ _ _ (c .unit .ensures) (c .before .length .ensures)
 
 pub normalize-spec : {M : Type 1} → statement M
-normalize-spec = tie.close (tie.spec (λ c κs. tt) (λ c κs. tt) (λ c κs. tt) returns)
+normalize-spec = tie.close (tie.spec (λ c κs. tt) (λ c κs. tt) returns)

@@ -1,7 +1,5 @@
 -- `Vec4d::load_at` meets its contract: number by number by that of `at`. Assumes nothing.
-use mathlib.Core.Path.{_≡_, ap, _∙_}
-use mathlib.Core.List.{List}
-use Prim.Native.Nat.{ℕ, _+_}
+use mathlib.Core.Path.{_∙_}
 use denote.Ref.{now}
 use borrow.Author.Needs.{needs}
 use Rattle.matrix.proofs.Same.{same-vec4, first}

@@ -1,5 +1,5 @@
 -- `number::answer::Verdict::put` meets its contract: a refusal has its number, and leaves what is lent. Assumes nothing.
-use mathlib.Core.Path.{_≡_, sym, ap, _∙_}
+use mathlib.Core.Path.{sym, ap, _∙_}
 use Prim.Native.Nat.{ℕ}
 use borrow.Author.Needs.{needs}
 use Rattle.number.specs.Answer.{lone, putVerdict, verdictOf}

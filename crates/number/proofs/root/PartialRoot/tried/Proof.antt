@@ -1,6 +1,6 @@
 -- `number::root::PartialRoot::tried` meets its contract: the difference's top bit says whether the bit fits, and makes a mask of no bits or of all.
 -- Assumes nothing.
-use mathlib.Core.Path.{_≡_, refl, sym, ap, _∙_, subst}
+use mathlib.Core.Path.{_≡_, sym, ap, _∙_, subst}
 use mathlib.Core.Bool.{Bool, true, false, not, cond}
 use Prim.Native.Nat.{ℕ, zero, suc, _+_, _-_, _*_, _/_, _%_, _^_, _≤_, _<_}
 use mathlib.Core.Logic.{_⊎_, inl, inr, ⊎-elim}
@@ -48,8 +48,8 @@ high h d H a b = one (d / h) (le-div-iff-mul-le H .1 (subst (λ (i : ℕ). i ≤
     one : (q : ℕ) → 1 ≤ q → q < 2 → q ≡ 1
     one q a b = omega arith
 
-same : (a b c l : ℕ) → a ≡ b → c ≡ l → _≡_ {A = PartialRoot} (record { root = a; left = c }) (record { root = b; left = l })
-same a b c l p q = λ i. record { root = p i; left = q i }
+same : (a b c l : ℕ) → a ≡ b → c ≡ l → _≡_ {A = PartialRoot} (record { trial = a; left = c }) (record { trial = b; left = l })
+same a b c l p q = λ i. record { trial = p i; left = q i }
 
 kept : (a b x : ℕ) → x ≡ 0 → a + (b - x) ≡ a + b
 kept a b x e = omega arith
@@ -58,7 +58,7 @@ dropped : (a b x : ℕ) → x ≡ b → a + (b - x) ≡ a
 dropped a b x e = omega arith
 
 -- h is half of the modulus w
-module _ (h root left bit t d m : ℕ) (H : 0 < h) (T' : t < h) (L : left < h) (D : d < 2 * h) (M : m < 2 * h)
+module _ (h left t d m : ℕ) (H : 0 < h) (T' : t < h) (L : left < h) (D : d < 2 * h) (M : m < 2 * h)
     (e : (d + t) % (2 * h) ≡ left) (f : (m + d / h) % (2 * h) ≡ 0) where
   none : t ≤ left → m ≡ 0
   none l =
@@ -73,30 +73,27 @@ module _ (h root left bit t d m : ℕ) (H : 0 < h) (T' : t < h) (L : left < h) (
       let g = borrowed (2 * h) 0 (d / h) m (omega arith) (omega arith) M f (omega arith) in
       omega arith
 
-module _ (root left bit d m : ℕ) (h : 2 * root + bit < 2 ^ 63) (k : left < 2 ^ 63) (D : d < 2 ^ 64) (M : m < 2 ^ 64)
-    (e : (d + (2 * root + bit)) % 2 ^ 64 ≡ left) (f : (m + d / 2 ^ 63) % 2 ^ 64 ≡ 0) where
-  chosen : (r : ℕ) → r ≡ (d + bitAnd (2 * root + bit) m) % 2 ^ 64
-      → _≡_ {A = PartialRoot} (record { root = root + (bit - bitAnd bit m); left = r }) (triedOf (record { root = root; left = left }) bit)
-  chosen r g = go (leb (2 * root + bit) left) (leb→le (2 * root + bit) left) (nleb→lt (2 * root + bit) left)
+module _ (trial left step d m : ℕ) (h : trial + step < 2 ^ 63) (k : left < 2 ^ 63) (D : d < 2 ^ 64) (M : m < 2 ^ 64)
+    (e : (d + trial) % 2 ^ 64 ≡ left) (f : (m + d / 2 ^ 63) % 2 ^ 64 ≡ 0) where
+  chosen : (r : ℕ) → r ≡ (d + bitAnd trial m) % 2 ^ 64
+      → _≡_ {A = PartialRoot} (record { trial = trial - step / 4 + (step - bitAnd step m); left = r }) (triedOf (record { trial = trial; left = left }) step)
+  chosen r g = go (leb trial left) (leb→le trial left) (nleb→lt trial left)
     where
-      go : (z : Bool) → (T z → 2 * root + bit ≤ left) → (T (not z) → left < 2 * root + bit)
-          → _≡_ {A = PartialRoot} (record { root = root + (bit - bitAnd bit m); left = r })
-          (cond z (record { root = root + bit; left = left - (2 * root + bit) }) (record { root = root; left = left }))
+      go : (z : Bool) → (T z → trial ≤ left) → (T (not z) → left < trial)
+          → _≡_ {A = PartialRoot} (record { trial = trial - step / 4 + (step - bitAnd step m); left = r })
+          (cond z (record { trial = trial - step / 4 + step; left = left - trial }) (record { trial = trial - step / 4; left = left }))
       go true l n =
-          let z = none (2 ^ 63) root left bit (2 * root + bit) d m (pow-pos 63) h k D M e f (l tt) in
-          let q = difference (2 ^ 64) left (2 * root + bit) d (omega arith) (omega arith) D e (l tt) in
-          same _ _ _ _ (kept root bit _ (no-bits bit m z))
-          (g ∙ ap (λ (i : ℕ). (d + i) % 2 ^ 64) (no-bits (2 * root + bit) m z) ∙ ap (λ (i : ℕ). i % 2 ^ 64) (add-zero d) ∙ mod-eq-of-lt D ∙ q)
+          let z = none (2 ^ 63) left trial d m (pow-pos 63) (omega arith) k D M e f (l tt) in
+          let q = difference (2 ^ 64) left trial d (omega arith) (omega arith) D e (l tt) in
+          same _ _ _ _ (kept (trial - step / 4) step _ (no-bits step m z))
+          (g ∙ ap (λ (i : ℕ). (d + i) % 2 ^ 64) (no-bits trial m z) ∙ ap (λ (i : ℕ). i % 2 ^ 64) (add-zero d) ∙ mod-eq-of-lt D ∙ q)
       go false l n =
-          let z = all (2 ^ 63) root left bit (2 * root + bit) d m (pow-pos 63) h k D M e f (n tt) in
+          let z = all (2 ^ 63) left trial d m (pow-pos 63) (omega arith) k D M e f (n tt) in
           let y : m ≡ 2 ^ 64 - 1 = omega arith in
-          same _ _ _ _ (dropped root bit _ (all-bits bit m (omega arith) y)) (g ∙ ap (λ (i : ℕ). (d + i) % 2 ^ 64) (all-bits (2 * root + bit) m (omega arith) y) ∙ e)
+          same _ _ _ _ (dropped (trial - step / 4) step _ (all-bits step m (omega arith) y)) (g ∙ ap (λ (i : ℕ). (d + i) % 2 ^ 64) (all-bits trial m (omega arith) y) ∙ e)
 
-mul-trial : tie.Need-mul-trial
-mul-trial c = search needs
-
-add-trial : tie.Need-add-trial
-add-trial c = search needs
+sub-refused : tie.Need-sub-refused
+sub-refused c = search needs
 
 wrapping-sub-u64-requires : tie.Need-wrapping-sub-u64-requires
 wrapping-sub-u64-requires c κs = search needs
@@ -105,7 +102,7 @@ wrapping-sub-u64-requires-2 : tie.Need-wrapping-sub-u64-requires-2
 wrapping-sub-u64-requires-2 c κs = search needs
 
 sub-t9 : tie.Need-sub-t9
-sub-t9 c = and-le-l (c .before .before .args .bit) (c .wrapping-sub-u642 .result)
+sub-t9 c = and-le-l (c .before .before .args .step) (c .wrapping-sub-u642 .result)
 
 add-t10 : tie.Need-add-t10
 add-t10 c = search needs
@@ -118,15 +115,14 @@ returns c =
     let a = c .before .before .before .args in
     let d = c .before .before .wrapping-sub-u64 in
     let m = c .before .wrapping-sub-u642 in
-    chosen (a .self .root) (a .self .left) (a .bit) (d .result) (m .result) (c .before .before .before .pre .0) (c .before .before .before .pre .1)
+    chosen (a .self .trial) (a .self .left) (a .step) (d .result) (m .result) (c .before .before .before .pre .1) (c .before .before .before .pre .2)
     (search needs) (search needs) (d .ensures) (m .ensures) (c .wrapping-add-u64 .result) (c .wrapping-add-u64 .ensures)
 
 pub tried-spec : {M : Type 1} → statement M
 tried-spec =
     tie.close
     (tie.spec
-    mul-trial
-    add-trial
+    sub-refused
     wrapping-sub-u64-requires
     wrapping-sub-u64-requires-2
     sub-t9

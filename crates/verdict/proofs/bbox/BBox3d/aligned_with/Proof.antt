@@ -1,12 +1,11 @@
 -- `BBox3d::aligned_with` meets its contract: the identity is written out. Assumes nothing.
-use mathlib.Core.Path.{_≡_, ap, _∙_}
+use mathlib.Core.Path.{_≡_}
 use mathlib.Core.Bool.{false}
-use lib.Ieee.{binary64, ofBits}
 use Rattle.matrix.specs.Range.{union}
 use Rattle.matrix.specs.declared.matrix.Mat4d.{Mat4d}
 use Rattle.matrix.specs.declared.range.Range3d.{Range3d}
 use Rattle.matrix.proofs.Literals.{zero-bits, one-bits}
-use Rattle.verdict.specs.BBox.{box, alignedRange, aligned}
+use Rattle.verdict.specs.BBox.{box, alignedRange}
 use Rattle.verdict.specs.declared.bbox.BBox3d.{BBox3d}
 use Rattle.verdict.proofs.bbox.BBox3d.aligned_with.Statement.{statement}
 use Rattle.verdict.proofs.bbox.BBox3d.aligned_with.Tie as tie

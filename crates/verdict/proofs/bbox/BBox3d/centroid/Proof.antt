@@ -1,5 +1,5 @@
 -- `BBox3d::centroid` meets its contract by what it calls. Assumes nothing.
-use mathlib.Core.Path.{_≡_, ap, _∙_}
+use mathlib.Core.Path.{ap, _∙_}
 use Rattle.matrix.specs.Transform.{transformed}
 use Rattle.verdict.proofs.bbox.BBox3d.centroid.Statement.{statement}
 use Rattle.verdict.proofs.bbox.BBox3d.centroid.Tie as tie

@@ -1,5 +1,5 @@
 -- `BBox3d::inverse` meets its contract: 1e-13 is written out. Assumes nothing.
-use mathlib.Core.Path.{_≡_, ap, _∙_}
+use mathlib.Core.Path.{ap, _∙_}
 use lib.Ieee.{Float}
 use Rattle.matrix.specs.Inverse.{inverseAbove}
 use Rattle.verdict.proofs.Literals.{box-epsilon-bits}

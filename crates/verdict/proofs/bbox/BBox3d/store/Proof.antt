@@ -1,5 +1,4 @@
 -- `BBox3d::store` meets its contract by what it calls. Assumes nothing.
-use mathlib.Core.Path.{_≡_}
 use borrow.Author.Needs.{needs}
 use Rattle.verdict.proofs.bbox.BBox3d.store.Statement.{statement}
 use Rattle.verdict.proofs.bbox.BBox3d.store.Tie as tie

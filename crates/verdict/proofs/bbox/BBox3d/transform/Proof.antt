@@ -1,5 +1,5 @@
 -- `BBox3d::transform` meets its contract by what it calls. Assumes nothing.
-use mathlib.Core.Path.{_≡_, ap}
+use mathlib.Core.Path.{ap}
 use Rattle.matrix.specs.declared.matrix.Mat4d.{Mat4d}
 use Rattle.verdict.specs.BBox.{box}
 use Rattle.verdict.proofs.bbox.BBox3d.transform.Statement.{statement}

@@ -1,0 +1,82 @@
+-- A product of its rows, an inverse of its cofactors and a moved range of its corners, each as the code puts it together. Assumes nothing.
+use mathlib.Core.Path.{_≡_, refl, ap, ap₂, _∙_}
+use mathlib.Core.Bool.{Bool, true, false}
+use mathlib.Core.List.{List}
+use Prim.Native.Nat.{ℕ, _+_}
+use lib.Ieee.{Float, nan, inf, fin, lt}
+use Rattle.number.specs.Arithmetic.{absOf, minOf, maxOf}
+use Rattle.number.specs.Slice.{at}
+use Rattle.matrix.specs.declared.vec.Vec4d.{Vec4d}
+use Rattle.matrix.specs.declared.matrix.Mat4d.{Mat4d}
+use Rattle.matrix.specs.declared.range.Range3d.{Range3d}
+use Rattle.matrix.specs.declared.inverse.Inverted.{Inverted}
+use Rattle.matrix.specs.declared.inverse.Inverted.the-variants.{Singular}
+use Rattle.matrix.specs.Vec.{vec4, dot4}
+use Rattle.matrix.specs.Matrix.{matrixOf, entry, product}
+use Rattle.matrix.specs.Transform.{homogeneous}
+use Rattle.matrix.specs.Inverse.{cofactors, adjugate, determinant, over, inverseAbove}
+use Rattle.matrix.specs.Range.{range, isEmpty, reached, transformed}
+use Rattle.matrix.proofs.Same.{rows, same-matrix}
+
+-- ---- a product
+
+-- the row i of a matrix, from its numbers
+abbrev rowOf : List Float → ℕ → Vec4d
+rowOf a n = vec4 (λ i. at a (n + i))
+
+row : (r v w : Vec4d) (m n : Mat4d) → r ≡ homogeneous m v → v ≡ w → m ≡ n → r ≡ homogeneous n w
+row r v w m n p q e = p ∙ ap₂ homogeneous e q
+
+pub product-of-rows : (m n : Mat4d) (r0 r1 r2 r3 : Vec4d) → r0 ≡ homogeneous n (m .r0) → r1 ≡ homogeneous n (m .r1) → r2 ≡ homogeneous n (m .r2) → r3 ≡ homogeneous n (m .r3)
+    → rows r0 r1 r2 r3 ≡ product m n
+unfolding product
+product-of-rows m n r0 r1 r2 r3 p0 p1 p2 p3 = same-matrix p0 p1 p2 p3
+
+module _ (a b : List Float) (m : Mat4d) (e : m ≡ matrixOf b) (v0 v1 v2 v3 r0 r1 r2 r3 : Vec4d) where
+  pub product-rows : v0 ≡ rowOf a 0 → v1 ≡ rowOf a 4 → v2 ≡ rowOf a 8 → v3 ≡ rowOf a 12
+      → r0 ≡ homogeneous m v0 → r1 ≡ homogeneous m v1 → r2 ≡ homogeneous m v2 → r3 ≡ homogeneous m v3
+      → rows r0 r1 r2 r3 ≡ product (matrixOf a) (matrixOf b)
+  unfolding product
+  product-rows p0 p1 p2 p3 q0 q1 q2 q3 =
+      same-matrix (row r0 v0 _ m _ q0 p0 e) (row r1 v1 _ m _ q1 p1 e) (row r2 v2 _ m _ q2 p2 e) (row r3 v3 _ m _ q3 p3 e)
+
+-- ---- an inverse
+
+none-above : (x : Float) → lt x nan ≡ false
+unfolding lt
+none-above nan = refl
+none-above (inf s) = refl
+none-above (fin s m e) = refl
+
+pub adjugate-rows : (m : Mat4d) (r0 r1 r2 r3 : Vec4d) → r0 ≡ cofactors m 0 → r1 ≡ cofactors m 1 → r2 ≡ cofactors m 2 → r3 ≡ cofactors m 3 → rows r0 r1 r2 r3 ≡ adjugate m
+unfolding adjugate
+adjugate-rows m r0 r1 r2 r3 p0 p1 p2 p3 = same-matrix p0 p1 p2 p3
+
+-- a NaN is larger than nothing
+pub no-number : (epsilon d : Float) (i : Mat4d) → d ≡ nan → Singular ≡ over epsilon d i
+unfolding over absOf
+no-number epsilon d i p = rw (p, none-above epsilon)
+
+-- the first row of m times the first column of i
+abbrev along : Mat4d → Mat4d → Float
+along m i = dot4 (entry m 0) (λ k. entry i k 0)
+
+module _ (epsilon : Float) (m i : Mat4d) (d : Float) (v : Inverted) (p : i ≡ adjugate m) (q : d ≡ along m i) where
+  by-row : d ≡ determinant m
+  unfolding determinant adjugate
+  by-row = q ∙ ap (along m) p
+
+  pub inverse-from : v ≡ over epsilon d i → v ≡ inverseAbove epsilon m
+  unfolding inverseAbove
+  inverse-from r = r ∙ ap₂ (over epsilon) by-row p
+
+-- ---- a moved range
+
+module _ (r : Range3d) (m : Mat4d) (e : Bool) (p : e ≡ isEmpty r) where
+  pub stays : e ≡ true → r ≡ transformed r m
+  unfolding transformed
+  stays t = rw (← p, t)
+
+  pub moves : (q : Range3d) → e ≡ false → q ≡ range (reached minOf r m) (reached maxOf r m) → q ≡ transformed r m
+  unfolding transformed
+  moves q t h = rw (← p, t) h

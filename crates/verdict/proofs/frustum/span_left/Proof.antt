@@ -1,0 +1,50 @@
+-- `span_left` meets its contract: the planes left and what is left of the segment decide. Assumes nothing.
+use mathlib.Core.Path.{_≡_, refl, _∙_}
+use mathlib.Core.Bool.{false}
+use Prim.Native.Nat.{_-_, _≤_}
+use native.Mathlib.Omega.{arith}
+use borrow.Author.Needs.{needs}
+use lib.Count.{trailingZeros}
+use lib.Ieee.{lt, ofBits, round, units, odd, size, span, climb}
+use Rattle.matrix.specs.Constants.{positiveZero, one}
+use Rattle.verdict.specs.Frustum.{spanLeft, planesOf}
+use Rattle.verdict.proofs.PlanesLeft.{planesLeft}
+use Rattle.verdict.proofs.Passes.{nothing-left, some-left, all-passed}
+use Rattle.verdict.proofs.frustum.span_left.Statement.{statement}
+use Rattle.verdict.proofs.frustum.span_left.Tie as tie
+
+abbrev Inv-loop : tie.InvT-loop
+Inv-loop volume a b span₀ i₀ span i =
+    (i ≤ 6) × (lt (span .end) (span .start) ≡ false) × (spanLeft (planesLeft volume i) a b (span .start) (span .end) ≡ spanLeft (planesOf volume) a b positiveZero one)
+
+abbrev μ-loop : tie.MeasureT-loop
+μ-loop volume a b span₀ i₀ span i = 6 - i
+
+loop-holds : tie.Need-loop-holds Inv-loop μ-loop
+unfolding ofBits round units odd size span climb trailingZeros lt
+loop-holds c = (omega arith, refl, refl)
+
+returns : tie.Need-returns Inv-loop μ-loop
+returns c =
+    let after = c .before .before in
+    let at = after .before in
+    let l = at .before .before .loop in
+    nothing-left _ (l .i) (omega arith) _ _ _ (at .plane-at .ensures) _ _ _ _ (l .inv .1) (after .cut .ensures .0) (after .cut .ensures .1) (c .if1 .taken) ∙ l .inv .2
+
+loop-again : tie.Need-loop-again Inv-loop μ-loop
+loop-again c =
+    let after = c .before .before in
+    let at = after .before in
+    let l = at .before .before .loop in (
+      omega arith,
+      c .if1 .left,
+      some-left _ (l .i) (omega arith) _ _ _ (at .plane-at .ensures) _ _ _ _ (l .inv .1) (after .cut .ensures .0) (after .cut .ensures .1) (c .if1 .left) ∙ l .inv .2,
+    )
+
+returns-2 : tie.Need-returns-2 Inv-loop μ-loop
+returns-2 c = let l = c .before .loop in all-passed _ (l .i) _ _ _ _ (omega arith) ∙ l .inv .2
+
+pub span-left-spec : {M : Type 1} → statement M
+span-left-spec =
+    tie.close
+    (tie.spec Inv-loop μ-loop loop-holds (λ c κs. (omega arith, search needs)) (λ c κs. tt) returns (λ c. search needs) (λ c. search needs) loop-again returns-2)
