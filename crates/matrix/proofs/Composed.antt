@@ -4,17 +4,19 @@ use mathlib.Core.Bool.{Bool, true, false}
 use mathlib.Core.List.{List}
 use Prim.Native.Nat.{ℕ, _+_}
 use lib.Ieee.{Float, nan, inf, fin, lt}
-use Rattle.number.specs.Arithmetic.{absOf, minOf, maxOf}
+use Rattle.number.specs.Arithmetic.{_⊘_, absOf, minOf, maxOf}
+use Rattle.number.specs.Answer.{unless}
 use Rattle.number.specs.Slice.{at}
 use Rattle.matrix.specs.declared.vec.Vec4d.{Vec4d}
 use Rattle.matrix.specs.declared.matrix.Mat4d.{Mat4d}
 use Rattle.matrix.specs.declared.range.Range3d.{Range3d}
 use Rattle.matrix.specs.declared.inverse.Inverted.{Inverted}
-use Rattle.matrix.specs.declared.inverse.Inverted.the-variants.{Singular}
+use Rattle.matrix.specs.declared.inverse.Inverted.the-variants.{Matrix, Singular}
 use Rattle.matrix.specs.Vec.{vec4, dot4}
 use Rattle.matrix.specs.Matrix.{matrixOf, entry, product}
 use Rattle.matrix.specs.Transform.{homogeneous}
-use Rattle.matrix.specs.Inverse.{cofactors, adjugate, determinant, over, inverseAbove}
+use Rattle.matrix.specs.Constants.{one}
+use Rattle.matrix.specs.Inverse.{cofactors, adjugate, determinant, scaled, over, inverseAbove, hasInverse}
 use Rattle.matrix.specs.Range.{range, isEmpty, reached, transformed}
 use Rattle.matrix.proofs.Same.{rows, same-matrix}
 
@@ -69,6 +71,19 @@ module _ (epsilon : Float) (m i : Mat4d) (d : Float) (v : Inverted) (p : i ≡ a
   pub inverse-from : v ≡ over epsilon d i → v ≡ inverseAbove epsilon m
   unfolding inverseAbove
   inverse-from r = r ∙ ap₂ (over epsilon) by-row p
+
+-- whether there is one is the test of the determinant
+told : (z : Bool) (x : Mat4d) → z ≡ hasInverse (unless z Singular (Matrix x))
+told true x = refl
+told false x = refl
+
+module _ (epsilon : Float) (m i : Mat4d) (d : Float) (p : i ≡ adjugate m) (q : d ≡ along m i) where
+  pub has-none : d ≡ nan → false ≡ hasInverse (inverseAbove epsilon m)
+  has-none n = ap hasInverse (inverse-from epsilon m i d Singular p q (no-number epsilon d i n))
+
+  pub has-one : (a : Float) → a ≡ absOf d → lt epsilon a ≡ hasInverse (inverseAbove epsilon m)
+  unfolding over
+  has-one a e = ap (lt epsilon) e ∙ told (lt epsilon (absOf d)) (scaled i (one ⊘ d)) ∙ ap hasInverse (inverse-from epsilon m i d (over epsilon d i) p q refl)
 
 -- ---- a moved range
 

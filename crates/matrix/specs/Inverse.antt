@@ -78,6 +78,11 @@ unfoldable pub inverseAbove : Float → Mat4d → Inverted
 unfolding determinant adjugate over
 inverseAbove epsilon m = over epsilon (determinant m) (adjugate m)
 
+-- there is one
+abbrev pub hasInverse : Inverted → Bool
+hasInverse (Matrix m) = true
+hasInverse Singular = false
+
 -- "1e-12 for `inverse`"
 abbrev pub inverse : Mat4d → Inverted
 inverse = inverseAbove singularDeterminant

@@ -2,7 +2,7 @@
 ghost use mathlib.Core.Path.{_≡_};
 ghost use Rattle.matrix.specs.Vec.{vec4, dot4};
 ghost use Rattle.matrix.specs.Matrix.{entry};
-ghost use Rattle.matrix.specs.Inverse.{beside, columnCofactor, cofactors, adjugate, scaled, over, inverseAbove, inverse};
+ghost use Rattle.matrix.specs.Inverse.{beside, columnCofactor, cofactors, adjugate, scaled, over, inverseAbove, hasInverse, inverse};
 use crate::matrix::Mat4d;
 use crate::vec::Vec4d;
 use number::order::abs;
@@ -131,6 +131,23 @@ impl Mat4d {
         let adjugate = self.adjugate();
         let det = self.determinant_by(adjugate);
         adjugate.over(det, epsilon)
+    }
+
+    // Whether there is one, of which the determinant alone is computed.
+    pub fn has_inverse_above(self, epsilon: f64) -> bool
+        ensures { λ r. ⌜ r ≡ hasInverse (inverseAbove epsilon self) ⌝ }
+    {
+        let adjugate = Mat4d {
+            r0: self.cofactors0(),
+            r1: self.cofactors1(),
+            r2: self.cofactors2(),
+            r3: self.cofactors3(),
+        };
+        let det = self.determinant_by(adjugate);
+        if det != det {
+            return false;
+        }
+        abs(det) > epsilon
     }
 
     pub fn inverse(self) -> Inverted

@@ -1,13 +1,13 @@
 -- Boxes in a space of their own, placed by a matrix, as Gf's documentation has them. Definitions only.
 use Prim.Native.Nat.{_+_, _*_, _^_}
-use mathlib.Core.Bool.{Bool, false, cond, _||_}
+use mathlib.Core.Bool.{Bool, false, not, cond, _||_}
 use mathlib.Core.List.{List, [], _∷_, _++_}
 use lib.Ieee.{Float, lt, le, eq}
 use Rattle.number.specs.Arithmetic.{_⊖_, _⊗_, absOf, maxOf}
 use Rattle.number.specs.Slice.{at}
 use Rattle.matrix.specs.Constants.{rounded, positiveZero, one}
 use Rattle.matrix.specs.Matrix.{entries, matrix, identity, product, determinant3}
-use Rattle.matrix.specs.Inverse.{inverseAbove}
+use Rattle.matrix.specs.Inverse.{inverseAbove, hasInverse}
 use Rattle.matrix.specs.Transform.{transformed as transformedPoint}
 use Rattle.matrix.specs.Range.{range, rangeOf, bounds, isEmpty, union, size, midpoint, transformed}
 use Rattle.matrix.specs.declared.vec.Vec3d.{Vec3d}
@@ -43,6 +43,10 @@ boxEpsilon = rounded 1 (10 ^ 13)
 
 abbrev pub intoBox : BBox3d → Inverted
 intoBox b = inverseAbove boxEpsilon (b .matrix)
+
+-- it has none
+abbrev pub isDegenerate : BBox3d → Bool
+isDegenerate b = not (hasInverse (intoBox b))
 
 -- ---- in the world
 

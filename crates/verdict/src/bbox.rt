@@ -4,7 +4,7 @@ ghost use mathlib.Core.Bool.{_||_};
 ghost use lib.ListN.{length};
 ghost use Rattle.matrix.specs.Range.{isEmpty};
 ghost use Rattle.number.specs.Slice.{stored};
-ghost use Rattle.verdict.specs.BBox.{flagOf, isFlag, numbers, boxOf, intoBox, alignedRange, centroid, volume, placed, extended, tolerance, preferred, smaller, aligned, merged, held, combined};
+ghost use Rattle.verdict.specs.BBox.{flagOf, isFlag, numbers, boxOf, intoBox, isDegenerate, alignedRange, centroid, volume, placed, extended, tolerance, preferred, smaller, aligned, merged, held, combined};
 use crate::record::vec3_at;
 use crate::record::vec4_at;
 use matrix::inverse::Inverted;
@@ -70,6 +70,13 @@ impl BBox3d {
         ensures { λ r. ⌜ r ≡ intoBox self ⌝ }
     {
         self.matrix.inverse_above(PRECISION_LIMIT)
+    }
+
+    // Whether it has none.
+    pub fn is_degenerate(self) -> bool
+        ensures { λ r. ⌜ r ≡ isDegenerate self ⌝ }
+    {
+        !self.matrix.has_inverse_above(PRECISION_LIMIT)
     }
 
     pub fn volume(self) -> f64

@@ -9,7 +9,6 @@ ghost use Rattle.verdict.specs.Frustum.{planeCount, planeAt, planesOf, p
 use crate::bbox::BBox3d;
 use crate::plane::Plane;
 use crate::record::vec3_at;
-use matrix::inverse::Inverted;
 use matrix::matrix::Mat4d;
 use matrix::vec::Vec3d;
 use number::order;
@@ -161,9 +160,9 @@ pub(crate) fn intersects_segment(volume: &[f64], a: Vec3d, b: Vec3d) -> bool
 fn into_space(b: BBox3d) -> Mat4d
     ensures { λ r. ⌜ r ≡ intoSpaceOf b ⌝ }
 {
-    let Inverted::Matrix(_) = b.inverse() else {
+    if b.is_degenerate() {
         return Mat4d::IDENTITY;
-    };
+    }
     b.matrix.transpose()
 }
 

@@ -1,33 +1,37 @@
--- `frustum::into_space` meets its contract by the cases of the inverse. Assumes nothing.
-use mathlib.Core.Path.{_≡_, sym, ap, _∙_}
-use borrow.Author.Needs.{needs}
+-- `frustum::into_space` meets its contract: by its test of the inverse. Assumes nothing.
+use mathlib.Core.Path.{_≡_, refl, sym, _∙_}
+use mathlib.Core.Bool.{true, false, not, true≢false, false≢true}
 use lib.Count.{trailingZeros}
 use lib.Ieee.{ofBits, round, units, odd, size, span, climb}
+use Rattle.matrix.specs.declared.matrix.Mat4d.{Mat4d}
 use Rattle.matrix.specs.declared.inverse.Inverted.{Inverted}
-use Rattle.matrix.specs.declared.inverse.Inverted.the-variants.{Singular}
-use Rattle.verdict.specs.declared.bbox.BBox3d.{BBox3d}
+use Rattle.matrix.specs.declared.inverse.Inverted.the-variants.{Matrix, Singular}
+use Rattle.matrix.specs.Matrix.{identity, transpose}
+use Rattle.matrix.specs.Inverse.{hasInverse}
 use Rattle.verdict.specs.BBox.{intoBox}
-use Rattle.verdict.specs.Frustum.{intoSpace, intoSpaceOf}
+use Rattle.verdict.specs.Frustum.{intoSpace}
 use Rattle.verdict.proofs.frustum.into_space.Statement.{statement}
 use Rattle.verdict.proofs.frustum.into_space.Tie as tie
 
-by-case : (b : BBox3d) (found i : Inverted) → found ≡ intoBox b → found ≡ i → intoSpace (b .matrix) i ≡ intoSpaceOf b
-by-case b found i e h = ap (λ (t : Inverted). intoSpace (b .matrix) t) (sym h ∙ e)
+unplaced : (m : Mat4d) (i : Inverted) → not (hasInverse i) ≡ true → identity ≡ intoSpace m i
+unplaced m (Matrix n) e = absurd (false≢true e)
+unplaced m Singular e = refl
 
-enum-told : tie.Need-enum-told
-enum-told c = search needs
-
-enum-told-2 : tie.Need-enum-told-2
-enum-told-2 c = search needs
+placed : (m : Mat4d) (i : Inverted) → not (hasInverse i) ≡ false → transpose m ≡ intoSpace m i
+placed m (Matrix n) e = refl
+placed m Singular e = absurd (true≢false e)
 
 returns : tie.Need-returns
 unfolding ofBits round units odd size span climb trailingZeros
-returns c = by-case (c .before .before .before .args .b) _ Singular (c .before .before .inverse .ensures) (c .enum-told2 .given .1)
+returns c =
+    let b = c .before .before .args .b in
+    unplaced (b .matrix) (intoBox b) (sym (c .before .is-degenerate .ensures) ∙ c .if1 .taken)
 
 returns-2 : tie.Need-returns-2
 returns-2 c =
-    let known = c .before in
-    c .transpose .ensures ∙ by-case (known .before .before .before .args .b) _ _ (known .before .before .inverse .ensures) (known .enum-told .given .1)
+    let tested = c .before in
+    let b = tested .before .before .args .b in
+    c .transpose .ensures ∙ placed (b .matrix) (intoBox b) (sym (tested .before .is-degenerate .ensures) ∙ tested .if1 .left)
 
 pub into-space-spec : {M : Type 1} → statement M
-into-space-spec = tie.close (tie.spec (λ c κs. tt) enum-told enum-told-2 returns (λ c κs. tt) returns-2)
+into-space-spec = tie.close (tie.spec (λ c κs. tt) returns (λ c κs. tt) returns-2)
