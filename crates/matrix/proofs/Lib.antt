@@ -5,6 +5,7 @@ pub mod Composed
 pub mod Signs
 pub mod QuarterTurns
 pub mod WholeMatrices
+pub mod Emptiness
 pub mod Length
 pub mod Units
 pub mod Cofactors

@@ -18,17 +18,18 @@ pub struct Range3d {
     pub max: Vec3d,
 }
 
-// The squared distance of a number from the span between two others.
+// The squared distance of a number from the span between two others. Where both tests hold, the second counts; no return waits on either, so neither is a branch.
 fn along(p: f64, min: f64, max: f64) -> f64
     ensures { λ r. ⌜ r ≡ along p min max ⌝ }
 {
-    if p < min {
-        return (min - p) * (min - p);
-    }
+    let mut found = 0.0;
     if p > max {
-        return (p - max) * (p - max);
+        found = (p - max) * (p - max);
     }
-    0.0
+    if p < min {
+        found = (min - p) * (min - p);
+    }
+    found
 }
 
 fn pick(from_max: bool, min: f64, max: f64) -> f64
@@ -233,19 +234,41 @@ impl Range3d {
         slice::store(&all, out);
     }
 
-    // The numbers of the eight corners, into a slice of 24.
-    pub fn store_corners(self, out: &mut [f64])
-        ensures { λ _. ⌜ now (out .exit) ≡ stored (corners self 8) (now (out .entry)) ⌝ }
+    // The numbers of the eight corners of the range in a slice, into a slice of 24. The last four go first, before x and y of the least corner are read: so the compiler stores all of them in pairs.
+    pub fn store_corners(s: &[f64], out: &mut [f64])
+        ensures { λ _. ⌜ now (out .exit) ≡ stored (corners (rangeOf (now (s .entry))) 8) (now (out .entry)) ⌝ }
     {
-        let mut all = [0.0; 24];
-        let mut i: usize = 0;
-        while i < 8 {
-            let corner = self.corner(i);
-            all[3 * i] = corner.x;
-            all[3 * i + 1] = corner.y;
-            all[3 * i + 2] = corner.z;
-            i += 1;
+        if out.len() != 24 {
+            return;
         }
-        slice::store(&all, out);
+        let z = at(s, 2);
+        let max = Vec3d::load_at(s, 3);
+        let last = [max.z, max.x, max.y, max.z];
+        slice::store_at(&last, out, 20);
+        let x = at(s, 0);
+        let y = at(s, 1);
+        let others = [
+            x,
+            y,
+            z,
+            max.x,
+            y,
+            z,
+            x,
+            max.y,
+            z,
+            max.x,
+            max.y,
+            z,
+            x,
+            y,
+            max.z,
+            max.x,
+            y,
+            max.z,
+            x,
+            max.y,
+        ];
+        slice::store_at(&others, out, 0);
     }
 }

@@ -9,6 +9,7 @@ use number::answer::Refusal;
 use number::answer::Scalar;
 use number::answer::Verdict;
 use number::answer::Written;
+use number::slice::at;
 
 // Whether a range holds no point.
 pub fn is_empty(range: &[f64]) -> Verdict
@@ -17,7 +18,14 @@ pub fn is_empty(range: &[f64]) -> Verdict
     if range.len() != 6 {
         return Verdict::Refused(Refusal::InputLength);
     }
-    if Range3d::load(range).is_empty() {
+    // the numbers of an axis are read when its turn comes: the first that shows it settles it
+    if at(range, 0) > at(range, 3) {
+        return Verdict::Yes;
+    }
+    if at(range, 1) > at(range, 4) {
+        return Verdict::Yes;
+    }
+    if at(range, 2) > at(range, 5) {
         return Verdict::Yes;
     }
     Verdict::No
@@ -121,6 +129,6 @@ pub fn corners(range: &[f64], out: &mut [f64]) -> Written
     if out.len() != 24 {
         return Written::Refused(Refusal::OutputLength);
     }
-    Range3d::load(range).store_corners(out);
+    Range3d::store_corners(range, out);
     Written::Done
 }

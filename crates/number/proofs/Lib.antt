@@ -17,6 +17,7 @@ pub mod RootRounding
 pub mod RootBits
 pub mod NearestRoot
 pub mod SquareRoot
+pub mod Stores
 pub mod Centimetres
 pub mod Refusals
 pub mod Narrowing

@@ -1,9 +1,9 @@
 -- Lent slices as lists of numbers. Definitions only.
-use Prim.Native.Nat.{ℕ}
+use Prim.Native.Nat.{ℕ, _+_}
 use mathlib.Core.Bool.{cond}
-use mathlib.Core.List.{List}
-use lib.Dec.{eqb}
-use lib.ListN.{length, getD}
+use mathlib.Core.List.{List, _++_}
+use lib.Dec.{eqb, leb}
+use lib.ListN.{length, getD, take, drop}
 use lib.Ieee.{Float, nan}
 
 -- the number at a place, and past the end a NaN
@@ -13,3 +13,7 @@ at s i = getD s i nan
 -- what a slice holds after the numbers v were stored into it: those, if it has room for just as many
 abbrev pub stored : List Float → List Float → List Float
 stored v out = cond (eqb (length v) (length out)) v out
+
+-- what it holds after they were stored into it from place n on: those there and its own before and after, if it has room for them
+abbrev pub storedAt : List Float → ℕ → List Float → List Float
+storedAt v n out = cond (leb (n + length v) (length out)) (take n out ++ v ++ drop (n + length v) out) out

@@ -1,6 +1,6 @@
 // Numbers read from a lent slice, and a result stored into one.
 ghost use mathlib.Core.Path.{_≡_};
-ghost use Rattle.number.specs.Slice.{at, stored};
+ghost use Rattle.number.specs.Slice.{at, storedAt, stored};
 
 // The number at a place; past the end a NaN.
 pub fn at(s: &[f64], i: usize) -> f64
@@ -12,6 +12,23 @@ pub fn at(s: &[f64], i: usize) -> f64
     0.0 / 0.0
 }
 
+// The numbers of one slice, into another from a place on; one without room for them is left alone.
+pub fn store_at(from: &[f64], out: &mut [f64], first: usize)
+    ensures { λ _. ⌜ now (out .exit) ≡ storedAt (now (from .entry)) first (now (out .entry)) ⌝ }
+{
+    if out.len() < first {
+        return;
+    }
+    if out.len() - first < from.len() {
+        return;
+    }
+    let mut i: usize = 0;
+    while i < from.len() {
+        out[first + i] = from[i];
+        i += 1;
+    }
+}
+
 // The numbers of one slice, into another of the same length; one of another length is left alone.
 pub fn store(from: &[f64], out: &mut [f64])
     ensures { λ _. ⌜ now (out .exit) ≡ stored (now (from .entry)) (now (out .entry)) ⌝ }
@@ -19,9 +36,5 @@ pub fn store(from: &[f64], out: &mut [f64])
     if from.len() != out.len() {
         return;
     }
-    let mut i: usize = 0;
-    while i < out.len() {
-        out[i] = from[i];
-        i += 1;
-    }
+    store_at(from, out, 0);
 }

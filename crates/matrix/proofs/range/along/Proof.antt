@@ -1,6 +1,7 @@
 -- `range::along` meets its contract by its two tests. Assumes nothing.
 use mathlib.Core.Path.{_≡_, _∙_}
 use mathlib.Core.Bool.{true, false}
+use mathlib.Core.Logic.{⊎-elim}
 use lib.Ieee.{Float, lt}
 use Rattle.number.specs.Arithmetic.{_⊖_}
 use Rattle.matrix.specs.Constants.{positiveZero}
@@ -23,13 +24,10 @@ module _ (p low high : Float) where
   within t u = rw (t, u)
 
 returns : tie.Need-returns
-returns c = before _ _ _ (c .if1 .taken)
+returns c = before _ _ _ (c .if2 .taken)
 
 returns-2 : tie.Need-returns-2
-returns-2 c = beyond _ _ _ (c .before .if1 .left) (c .if2 .taken)
-
-returns-3 : tie.Need-returns-3
-returns-3 c = zero-bits ∙ within _ _ _ (c .before .if1 .left) (c .if2 .left)
+returns-2 c = ⊎-elim (λ w. w .1 ∙ beyond _ _ _ (c .if2 .left) (w .0 .taken)) (λ w. w .1 ∙ zero-bits ∙ within _ _ _ (c .if2 .left) (w .0 .left)) (c .before .if1 .came)
 
 pub along-spec : {M : Type 1} → statement M
-along-spec = tie.close (tie.spec returns returns-2 returns-3)
+along-spec = tie.close (tie.spec returns returns-2)

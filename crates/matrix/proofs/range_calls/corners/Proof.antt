@@ -1,5 +1,5 @@
 -- `range_calls::corners` meets its contract: the lengths by its tests, the result by what it calls. Assumes nothing.
-use mathlib.Core.Path.{_≡_, refl, ap}
+use mathlib.Core.Path.{_≡_, refl}
 use mathlib.Core.List.{List}
 use borrow.Author.Needs.{needs}
 use lib.ListN.{length}
@@ -33,10 +33,8 @@ same-length c = search needs
 returns-3 : tie.Need-returns-3
 returns-3 c =
     let stored = c .before .before in
-    let loaded = stored .before .before in
-    let tests = loaded .before in
-    written 6 24 _ _ is _ _ _ _ _ (tests .before .if1 .left) (tests .if2 .left) (stored .store-corners .ensures) (count _)
-    (ap (λ (r : Range3d). corners r 8) (loaded .load .ensures)) refl
+    let tests = stored .before .before in
+    written 6 24 _ _ is _ _ _ _ _ (tests .before .if1 .left) (tests .if2 .left) (stored .store-corners .ensures) (count _) refl refl
 
 pub corners-spec : {M : Type 1} → statement M
-corners-spec = tie.close (tie.spec returns returns-2 (λ c κs. tt) (λ c κs. tt) same-length returns-3)
+corners-spec = tie.close (tie.spec returns returns-2 (λ c κs. tt) same-length returns-3)

@@ -1,16 +1,12 @@
 -- `number::grid::grid` meets its contract: each way out is a law over plain lists. Assumes nothing.
 use mathlib.Core.Path.{_≡_, refl, sym, ap, _∙_}
-use mathlib.Core.Bool.{Bool, cond}
 use mathlib.Core.List.{List, [], _∷_, map}
 use Prim.Native.Nat.{ℕ}
 use native.Mathlib.Omega.{arith}
 use borrow.Author.Needs.{needs}
-use lib.Dec.{eqb}
 use lib.IntN.{ℤ}
 use lib.ListN.{length}
 use lib.Ieee.{Float, binary64, ofInt}
-use lib.Ieee.Bits.{is-true}
-use lib.Ieee.Fits.{eq→eqb}
 use mir.Syntax.{w32}
 use mir.Val.{SFits, toZ, ofZ}
 use mir.ValLaws.{toZ-ofZ}
@@ -20,6 +16,7 @@ use Rattle.number.specs.Slice.{at, stored}
 use Rattle.number.specs.declared.grid.Coordinate.{Coordinate}
 use Rattle.number.specs.declared.grid.Coordinate.the-variants.{On, Off}
 use Rattle.number.proofs.Refusals.{has-yes, has-no, stops, passes}
+use Rattle.number.proofs.Stores.{same-room}
 use Rattle.number.proofs.grid.grid.Statement.{statement}
 use Rattle.number.proofs.grid.grid.Tie as tie
 
@@ -74,9 +71,6 @@ module _ (p out : List Float) (e : length p ≡ 3) (f : length out ≡ 3) where
   third-off x y k l m = all (On x) (On y) Off k l m
 
 -- the three numbers, stored
-same-room : (v out : List Float) → length v ≡ length out → stored v out ≡ v
-same-room v out e = ap (λ (b : Bool). cond b v out) (is-true (eqb (length v) (length out)) (eq→eqb e))
-
 written : (x y z : ℤ) (last out : List Float) → length out ≡ 3 → SFits w32 x → SFits w32 y → SFits w32 z
     → last ≡ stored (ofInt binary64 (toZ w32 (ofZ w32 x)) ∷ ofInt binary64 (toZ w32 (ofZ w32 y)) ∷ ofInt binary64 (toZ w32 (ofZ w32 z)) ∷ []) out
     → write last ≡ decided (On x ∷ On y ∷ On z ∷ []) out

@@ -1,143 +1,75 @@
--- `Range3d::store_corners` meets its contract: the numbers passed are those of the corners passed. Assumes nothing.
+-- `Range3d::store_corners` meets its contract: the two parts stored are the numbers of the corners. Assumes nothing.
 use mathlib.Core.Path.{_≡_, refl, sym, ap, _∙_}
-use mathlib.Core.List.{List, [], _∷_, _++_, append-assoc}
-use Prim.Native.Nat.{ℕ, _+_, _*_, _-_, _≤_, _<_}
-use native.Mathlib.Numerals.{add-one}
-use native.Mathlib.Omega.{arith}
-use denote.Ref.{now}
+use mathlib.Core.List.{List, [], _∷_, _++_}
 use borrow.Author.Needs.{needs}
-use lib.ListN.{length, take, set, length-set}
-use lib.Seq.{take-all, take-suc-set}
+use Prim.Native.Nat.{_+_}
+use lib.ListN.{length}
 use lib.Ieee.{Float}
-use Rattle.number.specs.Slice.{stored}
+use Rattle.number.specs.Slice.{at, stored, storedAt}
+use Rattle.number.proofs.Stores.{other-length, same-room, in-two-parts}
 use Rattle.matrix.specs.declared.vec.Vec3d.{Vec3d}
-use Rattle.matrix.specs.declared.range.Range3d.{Range3d}
-use Rattle.matrix.specs.Vec.{coordinates}
-use Rattle.matrix.specs.Range.{corner, corners}
+use Rattle.matrix.specs.Vec.{vec3}
+use Rattle.matrix.specs.Range.{rangeOf, range, corners}
 use Rattle.matrix.proofs.range.Range3d.store_corners.Statement.{statement}
 use Rattle.matrix.proofs.range.Range3d.store_corners.Tie as tie
 
--- a number stored at n, seen from n + 1 on
-put : (l : List Float) (n k : ℕ) (v : Float) → k ≡ n + 1 → n < length l → take k (set l n v) ≡ take n l ++ (v ∷ [])
-put l n k v e h = ap (λ (j : ℕ). take j (set l n v)) (e ∙ add-one n) ∙ take-suc-set l n v h
+module _ (x y z : Float) (max : Vec3d) where
+  abbrev others : List Float
+  others =
+      x ∷ y ∷ z ∷ max .x ∷ y ∷ z ∷ x ∷ max .y ∷ z ∷ max .x ∷ max .y ∷ z
+      ∷ x ∷ y ∷ max .z ∷ max .x ∷ y ∷ max .z ∷ x ∷ max .y ∷ []
 
-three : (l : List Float) (n k : ℕ) (v : Vec3d) → k ≡ n + 3 → n + 2 < length l
-    → take k (set (set (set l n (v .x)) (n + 1) (v .y)) (n + 2) (v .z)) ≡ take n l ++ coordinates v
-three l n k v e h =
-    let a = put l n (n + 1) (v .x) refl (omega arith) in
-    let b = put (set l n (v .x)) (n + 1) (n + 2) (v .y) (omega arith) (simp length-set (omega arith)) in
-    let c = put (set (set l n (v .x)) (n + 1) (v .y)) (n + 2) k (v .z) (omega arith) (simp length-set (omega arith)) in
-    c ∙ rw (b, a) (simp append-assoc)
+  abbrev last : List Float
+  last = max .z ∷ max .x ∷ max .y ∷ max .z ∷ []
 
-next : (r : Range3d) (i : ℕ) → corners r (i + 1) ≡ corners r i ++ coordinates (corner r i)
+  parts : others ++ last ≡ corners (range (record { x = x; y = y; z = z }) max) 8
+  unfolding corners
+  parts = refl
+
+other-room : (s out : List Float) → (length out ≡ 24 → ⊥) → out ≡ stored (corners (rangeOf s) 8) out
 unfolding corners
-next r i = ap (corners r) (add-one i)
+other-room s out n = sym (other-length (corners (rangeOf s) 8) out (λ e. n (sym e)))
 
-turn : (r : Range3d) (v : Vec3d) (l : List Float) (i : ℕ) → i < 8 → take (3 * i) l ≡ corners r i → length l ≡ 24 → v ≡ corner r i
-    → take (3 * (i + 1)) (set (set (set l (3 * i) (v .x)) (3 * i + 1) (v .y)) (3 * i + 2) (v .z)) ≡ corners r (i + 1)
-turn r v l i h t e p = three l (3 * i) (3 * (i + 1)) v (omega arith) (omega arith) ∙ rw (t, p, next)
-
-all-passed : (r : Range3d) (l out x : List Float) (i : ℕ) → i ≡ 8 → take (3 * i) l ≡ corners r i → length l ≡ 24 → x ≡ stored l out → x ≡ stored (corners r 8) out
-all-passed r l out x i e t n p =
-    let q : l ≡ corners r 8 = sym (take-all (3 * i) l (omega arith)) ∙ t ∙ ap (corners r) e in
-    p ∙ ap (λ (v : List Float). stored v out) q
-
-abbrev Inv-loop : tie.InvT-loop
-Inv-loop self out all₀ i₀ all i = (i ≤ 8) × (take (3 * i) all ≡ corners self i) × (length all ≡ 24)
-
-abbrev μ-loop : tie.MeasureT-loop
-μ-loop self out all₀ i₀ all i = 8 - i
-
-loop-holds : tie.Need-loop-holds Inv-loop μ-loop
+filled : (s out first second : List Float) (x y z : Float) (max : Vec3d) → length out ≡ 24
+    → z ≡ at s 2 → max ≡ vec3 (λ i. at s (3 + i)) → first ≡ storedAt (last x y z max) 20 out
+    → x ≡ at s 0 → y ≡ at s 1 → second ≡ storedAt (others x y z max) 0 first → second ≡ stored (corners (rangeOf s) 8) out
 unfolding corners
-loop-holds c = search needs
+filled s out first second x y z max e c m p a b q =
+    q ∙ ap (storedAt (others x y z max) 0) p ∙ in-two-parts (others x y z max) (last x y z max) out (sym e)
+    ∙ parts x y z max ∙ rw (a, b, c, m) (sym (same-room (corners (rangeOf s) 8) out (sym e)))
 
-corner-requires : tie.Need-corner-requires Inv-loop μ-loop
-corner-requires c κs = tt
+returns : tie.Need-returns
+returns c =
+    let given = c .before .before .before .args in
+    other-room (given .s .now) (given .out .now) (c .if1 .taken)
 
-mul-all : tie.Need-mul-all Inv-loop μ-loop
-mul-all c = search needs
-
-mul-all-2 : tie.Need-mul-all-2 Inv-loop μ-loop
-mul-all-2 c = search needs
-
-array-write-all : tie.Need-array-write-all Inv-loop μ-loop
-array-write-all c = search needs
-
-mul-all-3 : tie.Need-mul-all-3 Inv-loop μ-loop
-mul-all-3 c = search needs
-
-add-all : tie.Need-add-all Inv-loop μ-loop
-add-all c = search needs
-
-mul-all-4 : tie.Need-mul-all-4 Inv-loop μ-loop
-mul-all-4 c = search needs
-
-array-write-all-2 : tie.Need-array-write-all-2 Inv-loop μ-loop
-array-write-all-2 c = search needs
-
-mul-all-5 : tie.Need-mul-all-5 Inv-loop μ-loop
-mul-all-5 c = search needs
-
-add-all-2 : tie.Need-add-all-2 Inv-loop μ-loop
-add-all-2 c = search needs
-
-mul-all-6 : tie.Need-mul-all-6 Inv-loop μ-loop
-mul-all-6 c = search needs
-
-array-write-all-3 : tie.Need-array-write-all-3 Inv-loop μ-loop
-array-write-all-3 c = search needs
-
-add-i : tie.Need-add-i Inv-loop μ-loop
-add-i c = search needs
-
-loop-less : tie.Need-loop-less Inv-loop μ-loop
-loop-less c = search needs
-
-loop-again : tie.Need-loop-again Inv-loop μ-loop
-loop-again c =
-    let l = c .before .before .loop in
-    (omega arith, turn _ _ (l .all) (l .i) (omega arith) (l .inv .1) (l .inv .2) (c .corner .ensures), simp length-set (l .inv .2))
-
-slice-aggregate-store : tie.Need-slice-aggregate-store Inv-loop μ-loop
-slice-aggregate-store c = search needs
-
-store-requires : tie.Need-store-requires Inv-loop μ-loop
-store-requires c κs = tt
-
-same-length : tie.Need-same-length Inv-loop μ-loop
+same-length : tie.Need-same-length
 same-length c = search needs
 
-returns : tie.Need-returns Inv-loop μ-loop
-returns c =
-    let stored = c .before .before in
-    let at-loop = stored .before .before .before .before in
-    let l = at-loop .loop in
-    all-passed _ (l .all) (now (at-loop .before .before .args .out)) _ (l .i) (omega arith) (l .inv .1) (l .inv .2) (stored .store .ensures)
+returns-2 : tie.Need-returns-2
+returns-2 c =
+    let second = c .before .before in
+    let y = second .before .before .before in
+    let x = y .before in
+    let first = x .before .before .before in
+    let max = first .before .before .before in
+    let z = max .before in
+    let given = z .before .before .before .before .args in
+    filled (given .s .now) (given .out .now) _ _ _ _ _ _ (z .before .if1 .left) (z .at .ensures) (max .load-at .ensures) (first .store-at .ensures)
+    (x .at2 .ensures) (y .at3 .ensures) (second .store-at2 .ensures)
 
 pub store-corners-spec : {M : Type 1} → statement M
 store-corners-spec =
     tie.close
     (tie.spec
-    Inv-loop
-    μ-loop
-    loop-holds
-    corner-requires
-    mul-all
-    mul-all-2
-    array-write-all
-    mul-all-3
-    add-all
-    mul-all-4
-    array-write-all-2
-    mul-all-5
-    add-all-2
-    mul-all-6
-    array-write-all-3
-    add-i
-    loop-less
-    loop-again
-    slice-aggregate-store
-    store-requires
+    returns
+    (λ c κs. tt)
+    (λ c κs. tt)
+    (λ c. search needs)
+    (λ c κs. tt)
+    (λ c κs. tt)
+    (λ c κs. tt)
+    (λ c. search needs)
+    (λ c κs. tt)
     same-length
-    returns)
+    returns-2)
