@@ -73,8 +73,8 @@ signed f b n = go (leb (top f) b) (nleb→lt (top f) b)
     go false h = absurd (n (sym (mod-eq-of-lt (h tt))))
 
 -- ---- with a field above 0 the significand has all its digits
-pub normal : (b a x : ℕ) → a ≡ b % 2 ^ 52 → x ≡ b / 2 ^ 52 → 0 < x → x < 2047 → Normalised b (record { significand = 2 ^ 52 + a; scale = x + 51 })
-normal b a x e f p l = record {
+pub normal : (b a x : ℕ) → a ≡ b % 2 ^ 52 → x ≡ b / 2 ^ 52 → 0 < x → Normalised b (record { significand = 2 ^ 52 + a; scale = x + 51 })
+normal b a x e f p = record {
   leading = omega arith;
   digits = omega (arith, mod-lt b (pow-pos 52));
   scale = omega arith;

@@ -6,6 +6,7 @@ pub mod Exact
 pub mod Quotient
 pub mod Formula
 pub mod Nan
+pub mod Tests
 pub mod Magnitude
 pub mod Extremes
 pub mod Pack

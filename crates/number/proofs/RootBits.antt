@@ -54,7 +54,7 @@ module _ (m w : ℕ) (lo : 2 ^ 52 ≤ m) (hi : m < 2 ^ 53) where
   pub rounded-hi : closest (2 * rootOf N + restOf (rootOf N) N) 4 ≤ 2 ^ 53
   rounded-hi = let h = root-hi in let r = rest-le (rootOf N) N in le-trans (nearest-le ((2 * rootOf N + restOf (rootOf N) N) / 4) (compare ((2 * rootOf N + restOf (rootOf N) N) % 4 * 2) 4)) (omega arith)
 
-  module _ (n : ℕ) (v : m * 2 ^ w ≡ n * 2 ^ 52) (top : w ≤ 2097) where
+  module _ (n : ℕ) (v : m * 2 ^ w ≡ n * 2 ^ 52) (top : w ≤ 2098) where
     under-root : n * 2 ^ 1074 ≡ N * (2 ^ (w / 2 + 484) * 2 ^ (w / 2 + 484))
     under-root =
         ap (λ (i : ℕ). n * i) (pow-add 2 52 1022) ∙ sym (mul-assoc n (2 ^ 52) (2 ^ 1022)) ∙ ap (λ (i : ℕ). i * 2 ^ 1022) (sym v)

@@ -17,5 +17,5 @@ unitsOf f b = fieldUnits f (b / hid f) (b % hid f)
 pub record Normalised (b : ℕ) (p : Scaled) : Type 0 where
   pub leading : 2 ^ 52 ≤ p .significand
   pub digits : p .significand < 2 ^ 53
-  pub scale : p .scale ≤ 2097
+  pub scale : p .scale ≤ b / 2 ^ 52 + 52
   pub value : p .significand * 2 ^ (p .scale) ≡ unitsOf binary64 b * 2 ^ 52

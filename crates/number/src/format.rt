@@ -1,31 +1,33 @@
 // Between the formats binary64 and binary32, and from bit patterns to numbers.
 ghost use mathlib.Core.Path.{_≡_};
-ghost use Prim.Native.Nat.{_<_};
+ghost use Prim.Native.Nat.{_≤_};
 ghost use lib.Ieee.{binary32, binary64, ofBits, toBits};
 ghost use Rattle.number.specs.Format.{narrowOf, widenOf, Narrowed};
 use crate::nearest;
 use crate::normalised;
 
-// The bits of a finite magnitude above zero, rounded to binary32.
+// The bits of a magnitude that is no NaN's, rounded to binary32.
 fn narrow_bits(magnitude: u64) -> u32
-    requires { ⌜ (0 < magnitude) × (magnitude < 0x7ff0_0000_0000_0000) ⌝ }
+    requires { ⌜ magnitude ≤ 0x7ff0_0000_0000_0000 ⌝ }
     ensures { λ r. ⌜ Narrowed magnitude r ⌝ }
 {
+    // from 2 ^ -126, the smallest normal number, to below 2 ^ 128: 29 digits are dropped, and the exponent's field, into which a carry goes, is less by 896
+    if (0x3810_0000_0000_0000 <= magnitude) & (magnitude < 0x47f0_0000_0000_0000) {
+        return (nearest(magnitude, 29) - 0x1_c000_0000) as u32;
+    }
+    if 0x47f0_0000_0000_0000 <= magnitude {
+        return 0x7f80_0000;
+    }
+    if magnitude == 0 {
+        return 0;
+    }
     let parts = normalised(magnitude);
     let scale = parts.scale;
-    let significand = parts.significand;
     if scale < 914 {
         return 0;
     }
     // below the smallest normal number more than 29 digits are dropped
-    if scale < 948 {
-        return nearest(significand, 977 - scale) as u32;
-    }
-    let bits = ((scale - 948) << 23) + nearest(significand, 29);
-    if 0x7f80_0000 < bits {
-        return 0x7f80_0000;
-    }
-    bits as u32
+    nearest(parts.significand, 977 - scale) as u32
 }
 
 // convertFormat of IEEE 754, clause 5.4.2, from binary64 to binary32.
@@ -38,12 +40,6 @@ pub fn narrow(x: f64) -> f32
     let bits = f64::to_bits(x);
     let magnitude = bits & 0x7fff_ffff_ffff_ffff;
     let sign = ((bits >> 63) << 31) as u32;
-    if magnitude == 0 {
-        return f32::from_bits(sign);
-    }
-    if 0x7ff0_0000_0000_0000 <= magnitude {
-        return f32::from_bits(sign + 0x7f80_0000);
-    }
     f32::from_bits(sign + narrow_bits(magnitude))
 }
 

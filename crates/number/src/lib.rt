@@ -39,7 +39,7 @@ fn normalised(magnitude: u64) -> Scaled
 
 // m / 2 ^ d to the nearest whole number, a tie to the even one.
 fn nearest(m: u64, d: u64) -> u64
-    requires { ⌜ (0 < d) × (d < 64) × (m < 2 ^ 62) ⌝ }
+    requires { ⌜ (0 < d) × (d < 64) × (m < 2 ^ 63) ⌝ }
     ensures { λ r. ⌜ r ≡ closest m (2 ^ d) ⌝ }
 {
     let below_half = (1 << (d - 1)) - 1;

@@ -2,7 +2,7 @@
 -- Assumes nothing.
 use mathlib.Core.Path.{_≡_, refl, sym, ap, _∙_, subst}
 use Prim.Native.Nat.{ℕ, zero, suc, _+_, _-_, _*_, _/_, _%_, _^_, _≤_, _<_}
-use native.Mathlib.Nat.{mul-assoc, le-trans, le-of-eq, lt-of-lt-of-le, lt-of-le-of-lt, lt-of-not-le, not-le-of-lt, mul-le-mul-right, mod-lt, div-add-mod', mod-eq-of-lt, zero-lt-suc, div-lt-iff-lt-mul}
+use native.Mathlib.Nat.{mul-assoc, le-trans, le-of-eq, lt-of-lt-of-le, lt-of-le-of-lt, lt-of-not-le, not-le-of-lt, mul-le-mul-right, mod-lt, div-add-mod', mod-eq-of-lt, zero-lt-suc}
 use native.Mathlib.Omega.{arith}
 use borrow.Author.Needs.{needs}
 use lib.Bits.{bitAnd, and-mask}
@@ -89,7 +89,7 @@ add-t10 c = search needs
 returns-2 : tie.Need-returns-2
 returns-2 c =
     let b = c .before .args .magnitude in
-    normal b (bitAnd b 4503599627370495) (b / 2 ^ 52) (fraction b) refl (some (b / 2 ^ 52) (c .if1 .left)) (div-lt-iff-lt-mul (pow-pos 52) .1 (c .before .pre .1))
+    normal b (bitAnd b 4503599627370495) (b / 2 ^ 52) (fraction b) refl (some (b / 2 ^ 52) (c .if1 .left))
   where
     some : (i : ℕ) → (i ≡ 0 → ⊥) → 0 < i
     some zero n = absurd (n refl)

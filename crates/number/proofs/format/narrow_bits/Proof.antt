@@ -1,113 +1,82 @@
--- `number::format::narrow_bits` meets its contract: by the scale the result is nothing, subnormal, normal or too large (`proofs/Narrowing.antt`).
+-- `number::format::narrow_bits` meets its contract: by the magnitude the result is normal, infinite, zero or subnormal (`proofs/Narrowing.antt`).
 -- Assumes nothing.
-use mathlib.Core.Path.{_≡_, sym, ap, _∙_, subst}
-use mathlib.Core.Bool.{cond}
-use Prim.Native.Nat.{ℕ, _+_, _-_, _*_, _%_, _^_, _≤_, _<_, min}
-use native.Mathlib.Nat.{mod-eq-of-lt, lt-of-lt-of-le}
+use mathlib.Core.Path.{_≡_, sym, subst}
+use Prim.Native.Nat.{ℕ, _-_, _*_, _^_, _≤_, _<_}
+use native.Mathlib.Decide.{decLt}
 use native.Mathlib.Omega.{arith}
 use borrow.Author.Needs.{needs}
-use lib.Pow.{pow-mono}
-use lib.Ieee.{binary32, binary64, top, ofBits}
+use borrow.Author.Tests.{leb-true, leb-false, ltb-true, lt-ltb}
+use lib.Dec.{leb, ltb}
 use lib.Ieee.Nearest.{closest}
-use Rattle.number.specs.Bits.{unitsOf}
 use Rattle.number.specs.Format.{Narrowed}
-use Rattle.number.proofs.Narrowing.{narrow-packed, kept-small, kept-most}
-use Rattle.number.proofs.Rounding.{closest-zero}
+use Rattle.number.proofs.Narrowing.{narrow-normal, narrow-infinite, narrow-zero, narrow-nothing, narrow-subnormal, scale-most}
+use Rattle.number.proofs.Rounding.{near}
+use Rattle.number.proofs.Tests.{both-hold, first-fails}
 use Rattle.number.proofs.format.narrow_bits.Statement.{statement}
 use Rattle.number.proofs.format.narrow_bits.Tie as tie
 
-module _ (b m w : ℕ) (lo : 2 ^ 52 ≤ m) (hi : m < 2 ^ 53) (v : m * 2 ^ w ≡ unitsOf binary64 b * 2 ^ 52) where
-  -- a pattern that is the packed one
-  at : (k d r : ℕ) (e : w + 149 + d ≡ 1126 + k) (f : 53 + (w + 149) ≤ 24 + k + 1126) (g : 0 < k → 23 + k + 1126 ≤ 52 + (w + 149))
-      → r ≡ min (k * 2 ^ 23 + closest m (2 ^ d)) (255 * 2 ^ 23) → Narrowed b r
-  at k d r e f g p = record {
-    most = omega arith;
-    rounded = λ s. ap (λ (i : ℕ). ofBits binary32 (cond s (top binary32) 0 + i)) p ∙ narrow-packed m w (unitsOf binary64 b) lo hi v k d e f g s;
-  }
+normal : (b q : ℕ) → 897 * 2 ^ 52 ≤ b → b < 1151 * 2 ^ 52 → q ≡ closest b (2 ^ 29) → (896 * 2 ^ 23 ≤ q) × Narrowed b (q - 896 * 2 ^ 23)
+normal b q lo hi e = let n = near b (2 ^ 29) (omega arith) in (omega arith, narrow-normal b (q - 896 * 2 ^ 23) lo (omega arith) (omega arith))
 
-  nothing : w < 914 → Narrowed b 0
-  nothing h = at 0 (977 - w) 0 (omega arith) (omega arith) (λ z. absurd (omega arith))
-      (let z = closest-zero m (2 ^ (977 - w)) (lt-of-lt-of-le twice (pow-mono {i = 54} {j = 977 - w} (omega arith))) in omega arith)
-    where
-      twice : m * 2 < 2 ^ 54
-      twice = omega arith
-
-  subnormal : (r : ℕ) → w < 948 → r ≡ closest m (2 ^ (977 - w)) → (r ≤ 2 ^ 23) × Narrowed b r
-  subnormal r h e =
-      let l = kept-small m w (unitsOf binary64 b) lo hi v (977 - w) (omega arith) in
-      (omega arith, at 0 (977 - w) r (omega arith) (omega arith) (λ z. absurd (omega arith)) (omega arith))
-
-  normal : (r : ℕ) → 948 ≤ w → r ≡ min ((w - 948) * 2 ^ 23 + closest m (2 ^ 29)) (255 * 2 ^ 23) → Narrowed b r
-  normal r h e = at (w - 948) 29 r (omega arith) (omega arith) (λ z. omega arith) e
-
-  top-digit : 948 ≤ w → closest m (2 ^ 29) ≤ 2 ^ 24
-  top-digit h = kept-most m w (unitsOf binary64 b) lo hi v (w - 948) 29 (omega arith) (omega arith) (λ z. omega arith)
-
-normalised-requires : tie.Need-normalised-requires
-normalised-requires c κs = search needs
-
-returns : tie.Need-returns
-returns c =
-    let p = c .before .normalised .result in
-    let h = c .before .normalised .ensures in
-    nothing _ (p .significand) (p .scale) (h .leading) (h .digits) (h .value) (c .if1 .taken)
-
-sub-nearest : tie.Need-sub-nearest
-sub-nearest c = search needs
+too-large : (b : ℕ) → 1151 * 2 ^ 52 ≤ b → b ≤ 2047 * 2 ^ 52 → Narrowed b (255 * 2 ^ 23)
+too-large b lo hi = elim (decLt b (2047 * 2 ^ 52)) [
+  | yes l ↦ let n = near b (2 ^ 29) (omega arith) in narrow-normal b (255 * 2 ^ 23) (omega arith) l (omega arith)
+  | no n ↦ subst (λ (i : ℕ). Narrowed i (255 * 2 ^ 23)) {x = 2047 * 2 ^ 52} {y = b} (omega arith) narrow-infinite
+]
 
 nearest-requires : tie.Need-nearest-requires
 nearest-requires c κs = search needs
 
-small : (c : tie.After-nearest) → (c .nearest .result ≤ 2 ^ 23) × Narrowed (c .before .before .before .before .args .magnitude) (c .nearest .result)
-small c =
-    let p = c .before .before .before .normalised .result in
-    let h = c .before .before .before .normalised .ensures in
-    subnormal _ (p .significand) (p .scale) (h .leading) (h .digits) (h .value) (c .nearest .result) (c .before .if2 .taken) (c .nearest .ensures)
+ordinary : (c : tie.After-nearest) → (896 * 2 ^ 23 ≤ c .nearest .result) × Narrowed (c .before .before .args .magnitude) (c .nearest .result - 896 * 2 ^ 23)
+ordinary c =
+    let b = c .before .before .args .magnitude in
+    let t = both-hold (leb (897 * 2 ^ 52) b) (ltb b (1151 * 2 ^ 52)) (c .before .if1 .taken) in
+    normal b (c .nearest .result) (leb-true (897 * 2 ^ 52) b (t .0)) (ltb-true b (1151 * 2 ^ 52) (t .1)) (c .nearest .ensures)
+
+sub-result : tie.Need-sub-result
+sub-result c = ordinary c .0
 
 cast-result : tie.Need-cast-result
-cast-result c = omega (arith, small c .0)
+cast-result c = omega (arith, ordinary c .1 .most)
+
+returns : tie.Need-returns
+returns c = ordinary c .1
 
 returns-2 : tie.Need-returns-2
-returns-2 c = small c .1
-
-nearest-requires-2 : tie.Need-nearest-requires-2
-nearest-requires-2 c κs = search needs
-
--- the sum, and that it is not wrapped
-sum-is : (c : tie.After-nearest2) → let w = c .before .before .before .normalised .result .scale in
-    ((w - 948) * 2 ^ 23 % 2 ^ 64 ≡ (w - 948) * 2 ^ 23) × (c .nearest2 .result ≤ 2 ^ 24)
-sum-is c =
-    let p = c .before .before .before .normalised .result in
-    let h = c .before .before .before .normalised .ensures in
-    let s = h .scale in
-    let t = top-digit (c .before .before .before .before .args .magnitude) (p .significand) (p .scale) (h .leading) (h .digits) (h .value) (c .before .if2 .left) in
-    (mod-eq-of-lt (omega arith), subst (λ (i : ℕ). i ≤ 2 ^ 24) (sym (c .nearest2 .ensures)) t)
-
-add-bits : tie.Need-add-bits
-add-bits c = let s = sum-is c in let h = c .before .before .before .normalised .ensures .scale in omega (arith, s .0, s .1)
+returns-2 c = too-large (c .before .before .args .magnitude) (c .if2 .taken) (c .before .before .pre)
 
 returns-3 : tie.Need-returns-3
-returns-3 c =
-    let p = c .before .before .before .before .normalised .result in
-    let h = c .before .before .before .before .normalised .ensures in
-    let s = sum-is (c .before) in
-    let n = c .before .nearest2 .ensures in
-    let t = c .if3 .taken in
-    normal _ (p .significand) (p .scale) (h .leading) (h .digits) (h .value) _ (c .before .before .if2 .left) (omega (arith, s .0))
+returns-3 c = subst (λ (i : ℕ). Narrowed i 0) (sym (c .if3 .taken)) narrow-zero
 
-cast-result-2 : tie.Need-cast-result-2
-cast-result-2 c = search needs
+normalised-requires : tie.Need-normalised-requires
+normalised-requires c κs = search needs
+
+-- what is left is below the smallest normal number
+small : (c : tie.After-normalised) → c .before .before .before .before .args .magnitude < 897 * 2 ^ 52
+small c =
+    let b = c .before .before .before .before .args .magnitude in
+    leb-false (897 * 2 ^ 52) b
+    (first-fails (leb (897 * 2 ^ 52) b) (ltb b (1151 * 2 ^ 52)) (c .before .before .before .if1 .left) (lt-ltb b (1151 * 2 ^ 52) (c .before .before .if2 .left)))
 
 returns-4 : tie.Need-returns-4
-returns-4 c =
-    let p = c .before .before .before .before .normalised .result in
-    let h = c .before .before .before .before .normalised .ensures in
-    let s = sum-is (c .before) in
-    let n = c .before .nearest2 .ensures in
-    let t = c .if3 .left in
-    normal _ (p .significand) (p .scale) (h .leading) (h .digits) (h .value) _ (c .before .before .if2 .left) (omega (arith, s .0))
+returns-4 c = narrow-nothing _ (small (c .before)) _ (c .before .normalised .ensures) (c .if4 .taken)
+
+sub-nearest : tie.Need-sub-nearest
+sub-nearest c = omega (arith, scale-most _ (small (c .before)) _ (c .before .normalised .ensures))
+
+nearest-requires-2 : tie.Need-nearest-requires-2
+nearest-requires-2 c κs = let w = scale-most _ (small (c .before)) _ (c .before .normalised .ensures) in (omega arith, omega arith, omega arith)
+
+subnormal : (c : tie.After-nearest2) → Narrowed (c .before .before .before .before .before .before .args .magnitude) (c .nearest2 .result)
+subnormal c = narrow-subnormal _ (small (c .before .before)) _ (c .before .before .normalised .ensures) (c .nearest2 .result) (c .nearest2 .ensures)
+
+cast-result-2 : tie.Need-cast-result-2
+cast-result-2 c = omega (arith, subnormal c .most)
+
+returns-5 : tie.Need-returns-5
+returns-5 c = subnormal c
 
 pub narrow-bits-spec : {M : Type 1} → statement M
 narrow-bits-spec =
     tie.close
-    (tie.spec normalised-requires returns sub-nearest nearest-requires cast-result returns-2 nearest-requires-2 add-bits returns-3 cast-result-2 returns-4)
+    (tie.spec nearest-requires sub-result cast-result returns returns-2 returns-3 normalised-requires returns-4 sub-nearest nearest-requires-2 cast-result-2 returns-5)

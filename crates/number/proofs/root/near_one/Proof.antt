@@ -50,8 +50,8 @@ small k h = mul-le-mul {n₁ = k} {m₁ = k} {n₂ = 2 ^ 26} {m₂ = 2 ^ 26} h h
 -- from 1 on
 above : (b k : ℕ) → b ≡ 1023 * 2 ^ 52 + k → k < 2 ^ 26 → Is b
 above b k e h =
-    let p = normal b k 1023 (omega arith) (omega arith) (omega arith) (omega arith) in
-    ap (ofBits binary64) (omega arith) ∙ joined (2 ^ 52 + k) 1074 (p .leading) (p .digits) (unitsOf binary64 b) (p .value) (p .scale) ((2 ^ 53 + k) / 2) (rounds k h)
+    let p = normal b k 1023 (omega arith) (omega arith) (omega arith) in
+    ap (ofBits binary64) (omega arith) ∙ joined (2 ^ 52 + k) 1074 (p .leading) (p .digits) (unitsOf binary64 b) (p .value) (omega arith) ((2 ^ 53 + k) / 2) (rounds k h)
   where
     rounds : (k : ℕ) → k < 2 ^ 26 → Rounds ((2 ^ 52 + k) * 2 * 2 ^ 53) ((2 ^ 53 + k) / 2)
     rounds zero h = square ((2 ^ 52 + 0) * 2 * 2 ^ 53) (2 ^ 53) refl
@@ -63,9 +63,9 @@ above b k e h =
 -- below 1
 below : (b k : ℕ) → b + k ≡ 1023 * 2 ^ 52 → 0 < k → k < 2 ^ 26 → Is b
 below b k e K h =
-    let p = normal b (2 ^ 52 - k) 1022 (omega arith) (omega arith) (omega arith) (omega arith) in
+    let p = normal b (2 ^ 52 - k) 1022 (omega arith) (omega arith) (omega arith) in
     ap (ofBits binary64) (omega arith)
-    ∙ joined (2 ^ 52 + (2 ^ 52 - k)) 1073 (p .leading) (p .digits) (unitsOf binary64 b) (p .value) (p .scale) ((2 ^ 54 - k) / 2)
+    ∙ joined (2 ^ 52 + (2 ^ 52 - k)) 1073 (p .leading) (p .digits) (unitsOf binary64 b) (p .value) (omega arith) ((2 ^ 54 - k) / 2)
     (rounds (2 ^ 52 + (2 ^ 52 - k)) (2 ^ 54 - suc k) (omega arith) (omega arith))
   where
     -- (2 ^ 54 - s)²

@@ -1,25 +1,24 @@
 -- `number::root::root_bits` meets its contract: the laws of `proofs/RootBits.antt`, at what the search found. Assumes nothing.
 use mathlib.Core.Path.{_≡_, sym, ap, _∙_, subst}
 use Prim.Native.Nat.{ℕ, _+_, _*_, _^_, _≤_, _<_}
-use mathlib.Core.Bool.{true, _&&_}
 use native.Mathlib.Omega.{arith}
 use borrow.Author.Needs.{needs}
-use lib.Dec.{T, ltb, ltb→lt}
+use borrow.Author.Tests.{ltb-true}
+use lib.Dec.{ltb}
 use lib.Ieee.{binary64}
-use lib.Ieee.Fits.{and-l, and-r}
 use lib.Ieee.Nearest.{closest}
 use Rattle.number.specs.Bits.{unitsOf}
 use Rattle.number.specs.Root.{rootOf, restOf}
 use Rattle.number.proofs.RootBits.{N, shifted, shifted-ge, shifted-lt, halved, small, rounded-hi, joined}
+use Rattle.number.proofs.Tests.{both-hold}
 use Rattle.number.proofs.root.root_bits.Statement.{statement}
 use Rattle.number.proofs.root.root_bits.Tie as tie
 
--- a test of two bounds
-both : (a b m : ℕ) → (ltb a m && ltb m b) ≡ true → (a < m) × (m < b)
-both a b m e = let t : T (ltb a m && ltb m b) = subst T (sym e) tt in (ltb→lt a m (and-l (ltb a m) (ltb m b) t), ltb→lt m b (and-r (ltb a m) (ltb m b) t))
-
 near-one-requires : tie.Need-near-one-requires
-near-one-requires c κs = both 0x3fef_ffff_fc00_0000 0x3ff0_0000_0400_0000 (c .before .args .magnitude) (c .if1 .taken)
+near-one-requires c κs =
+    let m = c .before .args .magnitude in
+    let t = both-hold (ltb 0x3fef_ffff_fc00_0000 m) (ltb m 0x3ff0_0000_0400_0000) (c .if1 .taken) in
+    (ltb-true 0x3fef_ffff_fc00_0000 m (t .0), ltb-true m 0x3ff0_0000_0400_0000 (t .1))
 
 returns : tie.Need-returns
 returns c = search needs
@@ -84,7 +83,7 @@ returns-2 : tie.Need-returns-2
 returns-2 c =
     let p = c .before .before .before .before .normalised .result in
     let h = c .before .before .before .before .normalised .ensures in
-    joined (p .significand) (p .scale) (h .leading) (h .digits) (unitsOf binary64 (c .before .before .before .before .before .before .args .magnitude)) (h .value) (h .scale) (c .nearest .result) (rounded-is c)
+    joined (p .significand) (p .scale) (h .leading) (h .digits) (unitsOf binary64 (c .before .before .before .before .before .before .args .magnitude)) (h .value) (let s = h .scale in omega arith) (c .nearest .result) (rounded-is c)
 
 pub root-bits-spec : {M : Type 1} → statement M
 root-bits-spec =
