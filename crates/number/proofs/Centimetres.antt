@@ -12,7 +12,7 @@ use lib.Ieee.{Float, nan, inf, fin, binary64, up, down}
 use lib.Ieee.Exact.{HasValue}
 use lib.Ieee.Fits.{down-pos}
 use lib.Ieee.Nearest.{div-same}
-use Rattle.number.specs.Bits.{fieldUnits, unitsOf}
+use Rattle.number.specs.Steps.{fieldUnits, unitsOf}
 use Rattle.number.specs.Grid.{wholeNearest, gridLimit, placed}
 use Rattle.number.specs.Whole.{signed}
 use Rattle.number.specs.declared.grid.Coordinate.{Coordinate}

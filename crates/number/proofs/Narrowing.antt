@@ -13,8 +13,8 @@ use lib.Ieee.Fits.{nearest-le, down-pos}
 use lib.Ieee.Nearest.{closest, closest-same, nearest-ge}
 use lib.Ieee.Scale.{round-same}
 use Rattle.number.specs.declared.Scaled.{Scaled}
-use Rattle.number.specs.Bits.{Normalised, unitsOf}
-use Rattle.number.specs.Format.{narrowOf, Narrowed}
+use Rattle.number.specs.Format.{narrowOf}
+use Rattle.number.specs.Steps.{Narrowed, Normalised, unitsOf}
 use Rattle.number.proofs.Fields.{bits-value, signed, unsigned, normal}
 use Rattle.number.proofs.Pack.{pack}
 use Rattle.number.proofs.Rounding.{closest-even, closest-zero, round-at}

@@ -3,7 +3,7 @@ pub mod Arithmetic
 pub mod Root
 pub mod Whole
 pub mod Answer
-pub mod Bits
 pub mod Slice
 pub mod Grid
 pub mod Format
+pub mod Steps

@@ -1,13 +1,10 @@
 -- squareRoot of IEEE 754, clause 5.4.1, rounded to nearest, ties to even, over whole numbers. Definitions only.
 -- In units of its format's smallest value, 2 ^ -low, a number x is n units, and its root is the root of n * 2 ^ low units.
-use mathlib.Core.Path.{_≡_}
-use Prim.Native.Nat.{ℕ, zero, suc, _+_, _-_, _*_, _/_, _^_, _≤_, _<_}
+use Prim.Native.Nat.{ℕ, zero, suc, _+_, _*_, _/_, _^_, _≤_, _<_}
 use mathlib.Core.Bool.{false, cond}
 use lib.Dec.{T, leb, ltb}
 use lib.Ieee.{Float, nan, inf, fin, Format, low, up, down, size, round, fits}
 use lib.Ieee.Exact.{HasValue}
-use Rattle.number.specs.declared.root.PartialRoot.{PartialRoot}
-use Rattle.number.specs.declared.root.WholeRoot.{WholeRoot}
 
 -- The whole part of n's square root, for an n below 4 ^ k: two binary digits of n give one of the root.
 unfoldable pub rootIn : ℕ → ℕ → ℕ
@@ -43,16 +40,3 @@ pub record NearestRoot (f : Format) (s : ℕ) (y : Float) : Type 0 where
   pub value : HasValue y false units (2 ^ low f)
   pub above : (z : Float) (Z : ℕ) → T (fits f z) → HasValue z false Z (2 ^ low f) → units < Z → 4 * s ≤ (units + Z) * (units + Z)
   pub below : (z : Float) (Z : ℕ) → T (fits f z) → HasValue z false Z (2 ^ low f) → Z < units → (units + Z) * (units + Z) ≤ 4 * s
-
--- ---- the search
-
--- One bit b of a search for a root, with r the bits found: by (r + b)² = r² + (2 * r + b) * b it fits if what is left, in units of b, reaches 2 * r + b.
--- With u = 4 * b, trial and left are twice these two, so that the next trial, for b / 2, is whole: 4 * r + b, or 4 * (r + b) + b.
-abbrev pub triedOf : PartialRoot → ℕ → PartialRoot
-triedOf s u =
-    cond (leb (s .trial) (s .left)) (record { trial = s .trial - u / 4 + u; left = s .left - s .trial }) (record { trial = s .trial - u / 4; left = s .left })
-
--- what a search for the whole root of n finds
-pub record Found (n : ℕ) (r : WholeRoot) : Type 0 where
-  pub root : r .root ≡ rootOf n
-  pub rest : r .rest ≡ restOf (rootOf n) n

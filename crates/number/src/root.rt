@@ -2,8 +2,8 @@
 ghost use mathlib.Core.Path.{_≡_};
 ghost use Prim.Native.Nat.{_+_, _*_, _<_, _^_, _≤_};
 ghost use lib.Ieee.{binary64, ofBits};
-ghost use Rattle.number.specs.Bits.{unitsOf};
-ghost use Rattle.number.specs.Root.{Found, roundRoot, sqrtOf, triedOf};
+ghost use Rattle.number.specs.Root.{roundRoot, sqrtOf};
+ghost use Rattle.number.specs.Steps.{Found, triedOf, unitsOf};
 use crate::nearest;
 use crate::normalised;
 

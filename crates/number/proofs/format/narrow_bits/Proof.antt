@@ -8,7 +8,7 @@ use borrow.Author.Needs.{needs}
 use borrow.Author.Tests.{leb-true, leb-false, ltb-true, lt-ltb}
 use lib.Dec.{leb, ltb}
 use lib.Ieee.Nearest.{closest}
-use Rattle.number.specs.Format.{Narrowed}
+use Rattle.number.specs.Steps.{Narrowed}
 use Rattle.number.proofs.Narrowing.{narrow-normal, narrow-infinite, narrow-zero, narrow-nothing, narrow-subnormal, scale-most}
 use Rattle.number.proofs.Rounding.{near}
 use Rattle.number.proofs.Tests.{both-hold, first-fails}

@@ -9,8 +9,8 @@ use native.Mathlib.Omega.{arith}
 use borrow.Author.Needs.{needs}
 use lib.Ieee.{binary64, ofBits}
 use lib.Ieee.Nearest.{closest}
-use Rattle.number.specs.Bits.{unitsOf}
 use Rattle.number.specs.Root.{rootOf, restOf, roundRoot}
+use Rattle.number.specs.Steps.{unitsOf}
 use Rattle.number.proofs.Fields.{normal}
 use Rattle.number.proofs.Rounding.{nearest-shift}
 use Rattle.number.proofs.RootBits.{joined}

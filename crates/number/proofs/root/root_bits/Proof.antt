@@ -7,8 +7,8 @@ use borrow.Author.Tests.{ltb-true}
 use lib.Dec.{ltb}
 use lib.Ieee.{binary64}
 use lib.Ieee.Nearest.{closest}
-use Rattle.number.specs.Bits.{unitsOf}
 use Rattle.number.specs.Root.{rootOf, restOf}
+use Rattle.number.specs.Steps.{unitsOf}
 use Rattle.number.proofs.RootBits.{N, shifted, shifted-ge, shifted-lt, halved, small, rounded-hi, joined}
 use Rattle.number.proofs.Tests.{both-hold}
 use Rattle.number.proofs.root.root_bits.Statement.{statement}

@@ -7,7 +7,8 @@ use native.Mathlib.Nat.{pow-succ', mul-one, zero-mul}
 use native.Mathlib.Omega.{arith}
 use lib.Dec.{T, leb, leb→le, nleb→lt}
 use lib.Pow.{pow-pos}
-use Rattle.number.specs.Root.{rootOf, restOf, triedOf, Found}
+use Rattle.number.specs.Root.{rootOf, restOf}
+use Rattle.number.specs.Steps.{Found, triedOf}
 use Rattle.number.specs.declared.root.PartialRoot.{PartialRoot}
 use Rattle.number.proofs.RootRounding.{rest-none, rest-some}
 use Rattle.number.proofs.WholeRoot.{root-unique}

@@ -10,7 +10,7 @@ use borrow.Author.Needs.{needs}
 use lib.Bits.{bitAnd, and-mask, and-zero-r, and-le-l}
 use lib.Dec.{T, leb, leb→le, nleb→lt}
 use lib.Pow.{pow-pos}
-use Rattle.number.specs.Root.{triedOf}
+use Rattle.number.specs.Steps.{triedOf}
 use Rattle.number.specs.declared.root.PartialRoot.{PartialRoot}
 use Rattle.number.proofs.root.PartialRoot.tried.Statement.{statement}
 use Rattle.number.proofs.root.PartialRoot.tried.Tie as tie

@@ -1,0 +1,48 @@
+-- What the private functions promise one another on the way to a root, a narrowing or a place on the grid. No public contract and no definition of one
+-- speaks of it. Definitions only.
+use mathlib.Core.Path.{_≡_}
+use mathlib.Core.Bool.{Bool, cond}
+use Prim.Native.Nat.{ℕ, zero, suc, _+_, _-_, _*_, _/_, _%_, _^_, _≤_, _<_}
+use lib.Dec.{leb}
+use lib.Ieee.{Format, binary32, binary64, hid, top, ofBits}
+use Rattle.number.specs.Format.{narrowOf}
+use Rattle.number.specs.Root.{rootOf, restOf}
+use Rattle.number.specs.declared.Scaled.{Scaled}
+use Rattle.number.specs.declared.root.PartialRoot.{PartialRoot}
+use Rattle.number.specs.declared.root.WholeRoot.{WholeRoot}
+
+-- ---- the magnitude that a bit pattern stands for (IEEE 754, clause 3.4)
+
+-- in units of the format's smallest value, by the exponent's field and the fraction: a field of 0 has no leading digit
+abbrev pub fieldUnits : Format → ℕ → ℕ → ℕ
+fieldUnits f zero t = t
+fieldUnits f (suc x) t = (hid f + t) * 2 ^ x
+
+-- of a pattern b without its sign
+abbrev pub unitsOf : Format → ℕ → ℕ
+unitsOf f b = fieldUnits f (b / hid f) (b % hid f)
+
+-- A magnitude b above zero as a significand of 53 digits and a scale: significand * 2 ^ (scale - 52) smallest values.
+pub record Normalised (b : ℕ) (p : Scaled) : Type 0 where
+  pub leading : 2 ^ 52 ≤ p .significand
+  pub digits : p .significand < 2 ^ 53
+  pub scale : p .scale ≤ b / 2 ^ 52 + 52
+  pub value : p .significand * 2 ^ (p .scale) ≡ unitsOf binary64 b * 2 ^ 52
+
+-- Of a magnitude with the pattern b, r is the pattern once it is rounded to binary32; either sign is added to both.
+pub record Narrowed (b r : ℕ) : Type 0 where
+  pub most : r ≤ 0x7f80_0000
+  pub rounded : (s : Bool) → ofBits binary32 (cond s (top binary32) 0 + r) ≡ narrowOf (ofBits binary64 (cond s (top binary64) 0 + b))
+
+-- ---- the search for a root
+
+-- One bit b of a search for a root, with r the bits found: by (r + b)² = r² + (2 * r + b) * b it fits if what is left, in units of b, reaches 2 * r + b.
+-- With u = 4 * b, trial and left are twice these two, so that the next trial, for b / 2, is whole: 4 * r + b, or 4 * (r + b) + b.
+abbrev pub triedOf : PartialRoot → ℕ → PartialRoot
+triedOf s u =
+    cond (leb (s .trial) (s .left)) (record { trial = s .trial - u / 4 + u; left = s .left - s .trial }) (record { trial = s .trial - u / 4; left = s .left })
+
+-- what a search for the whole root of n finds
+pub record Found (n : ℕ) (r : WholeRoot) : Type 0 where
+  pub root : r .root ≡ rootOf n
+  pub rest : r .rest ≡ restOf (rootOf n) n
