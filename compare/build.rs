@@ -8,7 +8,11 @@ fn main() {
     println!("cargo::rerun-if-env-changed=GF_LIB");
     // The archive's sum: its date may be older than the last build.
     println!("cargo::rerun-if-env-changed=GF_LIB_SUM");
+    println!("cargo::rerun-if-env-changed=PLACEMENT");
     println!("cargo::rerun-if-changed=build.rs");
+    if let Ok(seed) = env::var("PLACEMENT") {
+        println!("cargo::rustc-link-arg=-Wl,--shuffle-sections=.text*={seed}");
+    }
     let mut exported = Vec::new();
     if env::var_os("CARGO_FEATURE_OURS").is_some() {
         let archive = env::var("GF_LIB").expect("GF_LIB names the archive");
