@@ -1,7 +1,7 @@
 // The magnitude of a number, and the smaller and the larger of two.
 ghost use mathlib.Core.Path.{_≡_};
 ghost use mathlib.Core.Bool.{cond};
-ghost use lib.Ieee.{isNan};
+ghost use lib.Ieee.{isNan, lt};
 ghost use lib.Ieee.Scale.{finite};
 ghost use Rattle.number.specs.Arithmetic.{absOf, minOf, maxOf};
 
@@ -13,6 +13,13 @@ pub fn abs(x: f64) -> f64
         return x;
     }
     f64::from_bits(f64::to_bits(x) & 0x7fff_ffff_ffff_ffff)
+}
+
+// Whether |x| < bound. Of the two comparisons the compiler makes one, and the test for a NaN in `abs` is not there.
+pub fn is_within(x: f64, bound: f64) -> bool
+    ensures { λ r. ⌜ r ≡ lt (absOf x) bound ⌝ }
+{
+    (x < bound) & (-bound < x)
 }
 
 // Neither a NaN nor an infinity.
