@@ -9,7 +9,8 @@ use Rattle.matrix.specs.Vec.{lengthOf, normalized}
 use Rattle.matrix.specs.Inverse.{adjugate, determinant, inverseAbove}
 use Rattle.matrix.specs.Range.{isEmpty}
 use Rattle.verdict.specs.Plane.{offset, endToward, reachesPositiveSide}
-use Rattle.verdict.specs.Frustum.{every, pointOf, spanLeft, segmentOf, boxOf, planesFrom}
+use Rattle.verdict.specs.Volume.{planesFrom}
+use Rattle.verdict.specs.Frustum.{every, pointOf, spanLeft, segmentOf, boxOf}
 use Rattle.verdict.specs.FrustumCalls.{intersectsPointCall, intersectsSegmentCall, intersectsBoxCall}
 use Rattle.verdict.specs.Marked.{MarkedVerdicts}
 

@@ -9,7 +9,8 @@ use Rattle.verdict.specs.declared.plane.Plane.{Plane}
 use Rattle.verdict.specs.declared.frustum.Ends.{Ends}
 use Rattle.verdict.specs.declared.triangle.Corners.{Corners}
 use Rattle.verdict.specs.Plane.{onPositiveSide}
-use Rattle.verdict.specs.Frustum.{every, pointOf, crossing, startCut, endCut, spanLeft, planeAt}
+use Rattle.verdict.specs.Volume.{planeCount, planeAt}
+use Rattle.verdict.specs.Frustum.{every, pointOf, crossing, startCut, endCut, spanLeft}
 use Rattle.verdict.specs.Passes.{endsOf, endsPast, cornersOf, cornersPast}
 use Rattle.verdict.proofs.PlanesLeft.{planesLeft, next, none}
 
@@ -19,7 +20,7 @@ use Rattle.verdict.proofs.PlanesLeft.{planesLeft, next, none}
 side : (s : List Float) (i : ℕ) (x : Vec3d) (p : Plane) (z : Bool) → p ≡ planeAt s i → z ≡ onPositiveSide p x → z ≡ onPositiveSide (planeAt s i) x
 side s i x p z e q = q ∙ ap (λ (t : Plane). onPositiveSide t x) e
 
-module _ (s : List Float) (i k : ℕ) (h : i < 6) (l : k ≡ i + 1) (p : Plane) (e : p ≡ planeAt s i) where
+module _ (s : List Float) (i k : ℕ) (h : i < planeCount) (l : k ≡ i + 1) (p : Plane) (e : p ≡ planeAt s i) where
   grown : planeAt s i ∷ planesLeft s k ≡ planesLeft s i
   grown = ap (λ (n : ℕ). planeAt s i ∷ planesLeft s n) l ∙ sym (next s i h)
 
@@ -45,7 +46,7 @@ tested true false start end at rest n = refl
 tested false true start end at rest n = refl
 tested false false start end at rest n = sym (ap (λ (z : Bool). not z && rest) n)
 
-module _ (s : List Float) (i : ℕ) (h : i < 6) (a b : Vec3d) (p : Plane) (e : p ≡ planeAt s i) (start end start' end' : Float) (n : lt end start ≡ false)
+module _ (s : List Float) (i : ℕ) (h : i < planeCount) (a b : Vec3d) (p : Plane) (e : p ≡ planeAt s i) (start end start' end' : Float) (n : lt end start ≡ false)
     (q : start' ≡ startCut (onPositiveSide p a) (onPositiveSide p b) start (crossing p a b))
     (r : end' ≡ endCut (onPositiveSide p a) (onPositiveSide p b) end (crossing p a b)) where
   cut : spanLeft (planesLeft s i) a b start end ≡ (not (lt end' start') && spanLeft (planesLeft s (i + 1)) a b start' end')
@@ -62,6 +63,6 @@ module _ (s : List Float) (i : ℕ) (h : i < 6) (a b : Vec3d) (p : Plane) (e : p
   pub some-left : lt end' start' ≡ false → spanLeft (planesLeft s (i + 1)) a b start' end' ≡ spanLeft (planesLeft s i) a b start end
   some-left z = sym (cut ∙ ap (λ (t : Bool). not t && spanLeft (planesLeft s (i + 1)) a b start' end') z)
 
-pub all-passed : (s : List Float) (i : ℕ) (a b : Vec3d) (start end : Float) → i ≡ 6 → true ≡ spanLeft (planesLeft s i) a b start end
+pub all-passed : (s : List Float) (i : ℕ) (a b : Vec3d) (start end : Float) → i ≡ planeCount → true ≡ spanLeft (planesLeft s i) a b start end
 unfolding spanLeft
 all-passed s i a b start end e = sym (ap (λ (ps : List Plane). spanLeft ps a b start end) (none s i e))

@@ -1,13 +1,12 @@
 -- The verdicts of a view, in the operation order of frustum.rs. A view is a list of planes that face into it: six of them in gf,
 -- any number here. Definitions only.
-use Prim.Native.Nat.{ℕ, zero, suc, _+_, _*_}
+use Prim.Native.Nat.{ℕ, zero, suc}
 use mathlib.Core.Bool.{Bool, true, false, not, cond, _&&_, _||_, Bool·beq}
 use mathlib.Core.List.{List, [], _∷_}
 use lib.Ieee.{Float, lt, neg}
 use Rattle.number.specs.Arithmetic.{_⊘_, minOf, maxOf}
-use Rattle.number.specs.Slice.{at}
 use Rattle.matrix.specs.Constants.{positiveZero, one}
-use Rattle.matrix.specs.Vec.{vec3, axis4, dot, difference}
+use Rattle.matrix.specs.Vec.{axis4, dot, difference}
 use Rattle.matrix.specs.Matrix.{identity, transpose, product}
 use Rattle.matrix.specs.Transform.{homogeneous}
 use Rattle.matrix.specs.Range.{isEmpty, corner}
@@ -21,8 +20,9 @@ use Rattle.verdict.specs.declared.bbox.BBox3d.{BBox3d}
 use Rattle.verdict.specs.declared.ray.Ray.{Ray}
 use Rattle.verdict.specs.declared.ray.TriangleHit.{TriangleHit}
 use Rattle.verdict.specs.declared.ray.TriangleHit.the-variants.{Hit, Refused}
-use Rattle.verdict.specs.Plane.{plane, distanceTo, onPositiveSide, reachesPositiveSide, underInverseTranspose}
-use Rattle.verdict.specs.Ray.{ray, triangleHit}
+use Rattle.verdict.specs.Plane.{distanceTo, onPositiveSide, reachesPositiveSide, underInverseTranspose}
+use Rattle.verdict.specs.Ray.{triangleHit}
+use Rattle.verdict.specs.Volume.{planesFrom, planesOf, nearAndFar, rayCount, raysFrom}
 use Rattle.verdict.specs.Projection.{everyBelow}
 use Rattle.verdict.specs.BBox.{intoBox}
 
@@ -87,34 +87,6 @@ unfoldable pub boxOf : List Plane → BBox3d → Bool
 unfolding every
 boxOf ps b = not (isEmpty (b .range)) && every (λ p. reachesPositiveSide (underInverseTranspose (intoSpaceOf b) p) (b .range)) ps
 
--- ---- the volume record: "six planes in the order of `planes`, then four rays"
-
-abbrev pub planeCount : ℕ
-planeCount = 6
-
-abbrev pub planeAt : List Float → ℕ → Plane
-planeAt s i = plane (vec3 (λ j. at s (i * 4 + j))) (at s (i * 4 + 3))
-
--- n planes of a record, from plane i on
-unfoldable pub planesFrom : List Float → ℕ → ℕ → List Plane
-planesFrom s i zero = []
-planesFrom s i (suc n) = planeAt s i ∷ planesFrom s (suc i) n
-
-abbrev pub planesOf : List Float → List Plane
-planesOf s = planesFrom s 0 planeCount
-
--- the near plane and the far plane
-abbrev pub nearAndFar : List Float → List Plane
-nearAndFar s = planesFrom s 4 2
-
-abbrev pub rayAt : List Float → ℕ → Ray
-rayAt s i = ray (vec3 (λ j. at s (24 + i * 6 + j))) (vec3 (λ j. at s (27 + i * 6 + j)))
-
--- n rays of a record, from ray i on
-unfoldable pub raysFrom : List Float → ℕ → ℕ → List Ray
-raysFrom s i zero = []
-raysFrom s i (suc n) = rayAt s i ∷ raysFrom s (suc i) n
-
 -- ---- a triangle of three points
 
 -- one of them at least is on the plane's positive side
@@ -136,7 +108,7 @@ someHit (r ∷ rs) a b c = isHit (triangleHit r a b c) || someHit rs a b c
 
 -- how many of the lines of sight along the view's corners are tried: one settles it for a triangle between the near and the far plane
 abbrev pub sightLines : List Float → Vec3d → Vec3d → Vec3d → ℕ
-sightLines s a b c = cond (every (hasCorners a b c) (nearAndFar s)) 1 4
+sightLines s a b c = cond (every (hasCorners a b c) (nearAndFar s)) 1 rayCount
 
 -- Not all are behind one plane; and then a corner is inside, or some of a side is, or the triangle surrounds the view, so that a line of sight meets it.
 unfoldable pub triangleOf : List Float → Vec3d → Vec3d → Vec3d → Bool

@@ -6,6 +6,7 @@ pub mod Recovery
 pub mod Calls
 pub mod BBox
 pub mod BBoxCalls
+pub mod Volume
 pub mod Frustum
 pub mod FrustumCalls
 pub mod FarmGrid

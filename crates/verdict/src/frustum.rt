@@ -1,36 +1,22 @@
-// The verdicts of a view: whether a point, a segment or a box is in it. A view is a record of six planes that face into it, then four rays.
+// The verdicts of a view: whether a point, a segment or a box is in it.
 ghost use mathlib.Core.Path.{_≡_};
-ghost use Prim.Native.Nat.{_<_};
 ghost use lib.ListN.{length};
 ghost use Rattle.matrix.specs.Constants.{positiveZero, one};
 ghost use Rattle.verdict.specs.Plane.{onPositiveSide};
 ghost use Rattle.verdict.specs.Passes.{endsOf, endsPast};
-ghost use Rattle.verdict.specs.Frustum.{planeCount, planeAt, planesOf, pointOf, crossing, startCut, endCut, spanLeft, segmentOf, intoSpaceOf, boxOf};
+ghost use Rattle.verdict.specs.Volume.{volumeLength, planesOf};
+ghost use Rattle.verdict.specs.Frustum.{pointOf, crossing, startCut, endCut, spanLeft, segmentOf, intoSpaceOf, boxOf};
 use crate::bbox::BBox3d;
 use crate::plane::Plane;
-use crate::record::vec3_at;
+use crate::volume::PLANE_COUNT;
+use crate::volume::plane_at;
 use matrix::matrix::Mat4d;
 use matrix::vec::Vec3d;
 use number::order;
 
-// How many planes a view has.
-pub(crate) const PLANE_COUNT: u32 = 6;
-
-// Plane i of a view.
-pub(crate) fn plane_at(volume: &[f64], i: u32) -> Plane
-    requires { ⌜ (i < planeCount) × (length (now volume) ≡ 48) ⌝ }
-    ensures { λ r. ⌜ r ≡ planeAt (now (volume .entry)) i ⌝ }
-{
-    let from = i as usize * 4;
-    Plane {
-        normal: vec3_at(volume, from),
-        distance: volume[from + 3],
-    }
-}
-
 // Whether a point is on the positive side of every plane.
 pub(crate) fn intersects_point(volume: &[f64], p: Vec3d) -> bool
-    requires { ⌜ length (now volume) ≡ 48 ⌝ }
+    requires { ⌜ length (now volume) ≡ volumeLength ⌝ }
     ensures { λ r. ⌜ r ≡ pointOf (planesOf (now (volume .entry))) p ⌝ }
 {
     let mut i: u32 = 0;
@@ -71,7 +57,7 @@ impl Ends {
 }
 
 fn ends_of(volume: &[f64], a: Vec3d, b: Vec3d) -> Ends
-    requires { ⌜ length (now volume) ≡ 48 ⌝ }
+    requires { ⌜ length (now volume) ≡ volumeLength ⌝ }
     ensures { λ r. ⌜ r ≡ endsOf (planesOf (now (volume .entry))) a b ⌝ }
 {
     let mut ends = Ends::UNTESTED;
@@ -123,7 +109,7 @@ impl Span {
 
 // Whether the planes leave some of a segment, by where it crosses them.
 pub(crate) fn span_left(volume: &[f64], a: Vec3d, b: Vec3d) -> bool
-    requires { ⌜ length (now volume) ≡ 48 ⌝ }
+    requires { ⌜ length (now volume) ≡ volumeLength ⌝ }
     ensures { λ r. ⌜ r ≡ spanLeft (planesOf (now (volume .entry))) a b positiveZero one ⌝ }
 {
     let mut span = Span {
@@ -143,7 +129,7 @@ pub(crate) fn span_left(volume: &[f64], a: Vec3d, b: Vec3d) -> bool
 
 // Whether some of a segment is on the positive side of every plane.
 pub(crate) fn intersects_segment(volume: &[f64], a: Vec3d, b: Vec3d) -> bool
-    requires { ⌜ length (now volume) ≡ 48 ⌝ }
+    requires { ⌜ length (now volume) ≡ volumeLength ⌝ }
     ensures { λ r. ⌜ r ≡ segmentOf (planesOf (now (volume .entry))) a b ⌝ }
 {
     let ends = ends_of(volume, a, b);
@@ -168,7 +154,7 @@ fn into_space(b: BBox3d) -> Mat4d
 
 // Whether a box reaches the positive side of every plane. An empty one does not.
 pub(crate) fn intersects_bbox(volume: &[f64], b: BBox3d) -> bool
-    requires { ⌜ length (now volume) ≡ 48 ⌝ }
+    requires { ⌜ length (now volume) ≡ volumeLength ⌝ }
     ensures { λ r. ⌜ r ≡ boxOf (planesOf (now (volume .entry))) b ⌝ }
 {
     let range = b.range;

@@ -7,6 +7,7 @@ use crate::bbox::is_flag;
 use crate::frustum;
 use crate::triangle;
 use crate::view_volume;
+use crate::volume::VOLUME_LENGTH;
 use matrix::matrix::Mat4d;
 use matrix::vec::Vec3d;
 use number::answer::Refusal;
@@ -27,7 +28,7 @@ fn told(yes: bool) -> Verdict
 pub fn intersects_point(volume: &[f64], p: &[f64]) -> Verdict
     ensures { λ r. ⌜ verdictOf r ≡ intersectsPointCall (now (volume .entry)) (now (p .entry)) ⌝ }
 {
-    if volume.len() != 48 {
+    if volume.len() != VOLUME_LENGTH {
         return Verdict::Refused(Refusal::InputLength);
     }
     if p.len() != 3 {
@@ -40,7 +41,7 @@ pub fn intersects_point(volume: &[f64], p: &[f64]) -> Verdict
 pub fn intersects_segment(volume: &[f64], p0: &[f64], p1: &[f64]) -> Verdict
     ensures { λ r. ⌜ verdictOf r ≡ intersectsSegmentCall (now (volume .entry)) (now (p0 .entry)) (now (p1 .entry)) ⌝ }
 {
-    if volume.len() != 48 {
+    if volume.len() != VOLUME_LENGTH {
         return Verdict::Refused(Refusal::InputLength);
     }
     if p0.len() != 3 {
@@ -56,7 +57,7 @@ pub fn intersects_segment(volume: &[f64], p0: &[f64], p1: &[f64]) -> Verdict
 pub fn intersects_bbox(volume: &[f64], bbox: &[f64]) -> Verdict
     ensures { λ r. ⌜ verdictOf r ≡ intersectsBoxCall (now (volume .entry)) (now (bbox .entry)) ⌝ }
 {
-    if volume.len() != 48 {
+    if volume.len() != VOLUME_LENGTH {
         return Verdict::Refused(Refusal::InputLength);
     }
     if bbox.len() != 23 {
@@ -72,7 +73,7 @@ pub fn intersects_bbox(volume: &[f64], bbox: &[f64]) -> Verdict
 pub fn intersects_triangle(volume: &[f64], p0: &[f64], p1: &[f64], p2: &[f64]) -> Verdict
     ensures { λ r. ⌜ verdictOf r ≡ intersectsTriangleCall (now (volume .entry)) (now (p0 .entry)) (now (p1 .entry)) (now (p2 .entry)) ⌝ }
 {
-    if volume.len() != 48 {
+    if volume.len() != VOLUME_LENGTH {
         return Verdict::Refused(Refusal::InputLength);
     }
     if p0.len() != 3 {

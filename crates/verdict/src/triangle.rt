@@ -1,20 +1,24 @@
 // Whether a triangle is in view.
 ghost use mathlib.Core.Path.{_≡_};
 ghost use mathlib.Core.Bool.{_&&_};
-ghost use Prim.Native.Nat.{_<_, _≤_};
+ghost use Prim.Native.Nat.{_≤_};
 ghost use lib.ListN.{length};
 ghost use Rattle.matrix.specs.Constants.{positiveZero, one};
 ghost use Rattle.verdict.specs.Ray.{triangleHit};
-ghost use Rattle.verdict.specs.Frustum.{planesOf, spanLeft, hasCorners, rayAt, raysFrom, isHit, someHit, sightLines, triangleOf};
+ghost use Rattle.verdict.specs.Volume.{volumeLength, rayCount, planesOf, raysFrom};
+ghost use Rattle.verdict.specs.Frustum.{spanLeft, hasCorners, isHit, someHit, sightLines, triangleOf};
 ghost use Rattle.verdict.specs.Passes.{cornersOf, cornersPast, sideLeft};
 use crate::frustum::Ends;
-use crate::frustum::PLANE_COUNT;
-use crate::frustum::plane_at;
 use crate::frustum::span_left;
 use crate::plane::Plane;
 use crate::ray::Ray;
 use crate::ray::TriangleHit;
-use crate::record::vec3_at;
+use crate::volume::FAR_PLANE;
+use crate::volume::NEAR_PLANE;
+use crate::volume::PLANE_COUNT;
+use crate::volume::RAY_COUNT;
+use crate::volume::plane_at;
+use crate::volume::ray_at;
 use matrix::vec::Vec3d;
 
 // Whether each plane passed has one of three points at least on its positive side, and what it has there of each side's ends.
@@ -47,7 +51,7 @@ impl Corners {
 }
 
 fn corners_of(volume: &[f64], p0: Vec3d, p1: Vec3d, p2: Vec3d) -> Corners
-    requires { ⌜ length (now volume) ≡ 48 ⌝ }
+    requires { ⌜ length (now volume) ≡ volumeLength ⌝ }
     ensures { λ r. ⌜ r ≡ cornersOf (planesOf (now (volume .entry))) p0 p1 p2 ⌝ }
 {
     let mut corners = Corners::UNTESTED;
@@ -66,7 +70,7 @@ fn corners_of(volume: &[f64], p0: Vec3d, p1: Vec3d, p2: Vec3d) -> Corners
 
 // Whether the planes leave some of a side, of which both ends are outside.
 fn crosses(volume: &[f64], ends: Ends, a: Vec3d, b: Vec3d) -> bool
-    requires { ⌜ length (now volume) ≡ 48 ⌝ }
+    requires { ⌜ length (now volume) ≡ volumeLength ⌝ }
     ensures { λ r. ⌜ r ≡ (ends .some && spanLeft (planesOf (now (volume .entry))) a b positiveZero one) ⌝ }
 {
     if ends.some {
@@ -77,7 +81,7 @@ fn crosses(volume: &[f64], ends: Ends, a: Vec3d, b: Vec3d) -> bool
 
 // Whether some of a side is in view, of sides with all ends outside.
 fn side_in_view(volume: &[f64], corners: Corners, p0: Vec3d, p1: Vec3d, p2: Vec3d) -> bool
-    requires { ⌜ length (now volume) ≡ 48 ⌝ }
+    requires { ⌜ length (now volume) ≡ volumeLength ⌝ }
     ensures { λ r. ⌜ r ≡ sideLeft (planesOf (now (volume .entry))) corners p0 p1 p2 ⌝ }
 {
     if crosses(volume, corners.side01, p0, p1) {
@@ -98,27 +102,16 @@ fn has_corners(plane: Plane, p0: Vec3d, p1: Vec3d, p2: Vec3d) -> bool
 
 // How many lines of sight are tried: one where all three points are between the near and the far plane.
 fn sight_lines(volume: &[f64], p0: Vec3d, p1: Vec3d, p2: Vec3d) -> u32
-    requires { ⌜ length (now volume) ≡ 48 ⌝ }
+    requires { ⌜ length (now volume) ≡ volumeLength ⌝ }
     ensures { λ r. ⌜ r ≡ sightLines (now (volume .entry)) p0 p1 p2 ⌝ }
 {
-    if has_corners(plane_at(volume, 4), p0, p1, p2) {
-        if has_corners(plane_at(volume, 5), p0, p1, p2) {
+    if has_corners(plane_at(volume, NEAR_PLANE), p0, p1, p2) {
+        if has_corners(plane_at(volume, FAR_PLANE), p0, p1, p2) {
             return 1;
         }
-        return 4;
+        return RAY_COUNT;
     }
-    4
-}
-
-// A line of sight along a corner of the view.
-fn ray_at(volume: &[f64], i: u32) -> Ray
-    requires { ⌜ (i < 4) × (length (now volume) ≡ 48) ⌝ }
-    ensures { λ r. ⌜ r ≡ rayAt (now (volume .entry)) i ⌝ }
-{
-    Ray {
-        start: vec3_at(volume, 24 + i as usize * 6),
-        direction: vec3_at(volume, 27 + i as usize * 6),
-    }
+    RAY_COUNT
 }
 
 fn meets(ray: Ray, p0: Vec3d, p1: Vec3d, p2: Vec3d) -> bool
@@ -138,7 +131,7 @@ fn meets(ray: Ray, p0: Vec3d, p1: Vec3d, p2: Vec3d) -> bool
 
 // Whether one of the first lines of sight meets the triangle.
 fn line_meets(volume: &[f64], count: u32, p0: Vec3d, p1: Vec3d, p2: Vec3d) -> bool
-    requires { ⌜ (count ≤ 4) × (length (now volume) ≡ 48) ⌝ }
+    requires { ⌜ (count ≤ rayCount) × (length (now volume) ≡ volumeLength) ⌝ }
     ensures { λ r. ⌜ r ≡ someHit (raysFrom (now (volume .entry)) 0 count) p0 p1 p2 ⌝ }
 {
     let mut i: u32 = 0;
@@ -153,7 +146,7 @@ fn line_meets(volume: &[f64], count: u32, p0: Vec3d, p1: Vec3d, p2: Vec3d) -> bo
 
 // Whether a triangle is in view: a corner is, or some of a side, or it surrounds the view.
 pub(crate) fn intersects_triangle(volume: &[f64], p0: Vec3d, p1: Vec3d, p2: Vec3d) -> bool
-    requires { ⌜ length (now volume) ≡ 48 ⌝ }
+    requires { ⌜ length (now volume) ≡ volumeLength ⌝ }
     ensures { λ r. ⌜ r ≡ triangleOf (now (volume .entry)) p0 p1 p2 ⌝ }
 {
     let corners = corners_of(volume, p0, p1, p2);

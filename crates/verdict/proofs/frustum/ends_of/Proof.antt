@@ -3,7 +3,8 @@ use mathlib.Core.Path.{_≡_, refl, ap, _∙_}
 use Prim.Native.Nat.{ℕ, _≤_}
 use native.Mathlib.Omega.{arith}
 use borrow.Author.Needs.{needs}
-use Rattle.verdict.specs.Frustum.{every, pointOf, planesFrom}
+use Rattle.verdict.specs.Volume.{planeCount, planesFrom}
+use Rattle.verdict.specs.Frustum.{every, pointOf}
 use Rattle.verdict.specs.Passes.{endsOf}
 use Rattle.verdict.proofs.PlanesLeft.{planesLeft}
 use Rattle.verdict.proofs.Passes.{ends-next}
@@ -11,7 +12,7 @@ use Rattle.verdict.proofs.frustum.ends_of.Statement.{statement}
 use Rattle.verdict.proofs.frustum.ends_of.Tie as tie
 
 abbrev Inv-loop : tie.InvT-loop
-Inv-loop volume a b ends₀ i₀ ends i = (i ≤ 6) × (ends ≡ endsOf (planesLeft volume i) a b)
+Inv-loop volume a b ends₀ i₀ ends i = (i ≤ planeCount) × (ends ≡ endsOf (planesLeft volume i) a b)
 
 abbrev μ-loop : tie.MeasureT-loop
 μ-loop volume a b ends₀ i₀ ends i = i

@@ -11,7 +11,8 @@ use Rattle.matrix.specs.Range.{isEmpty}
 use Rattle.verdict.specs.declared.plane.Plane.{Plane}
 use Rattle.verdict.specs.declared.bbox.BBox3d.{BBox3d}
 use Rattle.verdict.specs.Plane.{reachesPositiveSide, underInverseTranspose}
-use Rattle.verdict.specs.Frustum.{every, boxOf, intoSpaceOf, planesOf}
+use Rattle.verdict.specs.Volume.{planeCount, planesOf}
+use Rattle.verdict.specs.Frustum.{every, boxOf, intoSpaceOf}
 use Rattle.verdict.proofs.PlanesLeft.{planesLeft, fails, holds, all-hold}
 use Rattle.verdict.proofs.frustum.intersects_bbox.Statement.{statement}
 use Rattle.verdict.proofs.frustum.intersects_bbox.Tie as tie
@@ -32,10 +33,10 @@ reached : (m : Mat4d) (r : Range3d) (z : Bool) (p p' q : Plane) → z ≡ reache
 reached m r z p p' q e f g = e ∙ ap (λ (t : Plane). reachesPositiveSide t r) f ∙ ap (test m r) g
 
 abbrev Inv-loop : tie.InvT-loop
-Inv-loop volume range into i₀ i = (i ≤ 6) × (every (test into range) (planesLeft volume i) ≡ every (test into range) (planesOf volume))
+Inv-loop volume range into i₀ i = (i ≤ planeCount) × (every (test into range) (planesLeft volume i) ≡ every (test into range) (planesOf volume))
 
 abbrev μ-loop : tie.MeasureT-loop
-μ-loop volume range into i₀ i = 6 - i
+μ-loop volume range into i₀ i = planeCount - i
 
 returns : tie.Need-returns Inv-loop μ-loop
 returns c = no-range _ _ _ (c .before .is-empty .ensures) (c .if1 .taken)

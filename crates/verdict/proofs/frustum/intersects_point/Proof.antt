@@ -7,7 +7,8 @@ use borrow.Author.Needs.{needs}
 use Rattle.matrix.specs.declared.vec.Vec3d.{Vec3d}
 use Rattle.verdict.specs.declared.plane.Plane.{Plane}
 use Rattle.verdict.specs.Plane.{onPositiveSide}
-use Rattle.verdict.specs.Frustum.{every, pointOf, planesOf}
+use Rattle.verdict.specs.Volume.{planeCount, planesOf}
+use Rattle.verdict.specs.Frustum.{every, pointOf}
 use Rattle.verdict.proofs.PlanesLeft.{planesLeft, fails, holds, all-hold}
 use Rattle.verdict.proofs.frustum.intersects_point.Statement.{statement}
 use Rattle.verdict.proofs.frustum.intersects_point.Tie as tie
@@ -16,10 +17,10 @@ abbrev test : Vec3d → Plane → Bool
 test x p = onPositiveSide p x
 
 abbrev Inv-loop : tie.InvT-loop
-Inv-loop volume p i₀ i = (i ≤ 6) × (every (test p) (planesLeft volume i) ≡ pointOf (planesOf volume) p)
+Inv-loop volume p i₀ i = (i ≤ planeCount) × (every (test p) (planesLeft volume i) ≡ pointOf (planesOf volume) p)
 
 abbrev μ-loop : tie.MeasureT-loop
-μ-loop volume p i₀ i = 6 - i
+μ-loop volume p i₀ i = planeCount - i
 
 loop-holds : tie.Need-loop-holds Inv-loop μ-loop
 unfolding pointOf

@@ -7,7 +7,8 @@ use Rattle.matrix.specs.Constants.{positiveZero, one}
 use Rattle.matrix.specs.declared.vec.Vec3d.{Vec3d}
 use Rattle.verdict.specs.declared.plane.Plane.{Plane}
 use Rattle.verdict.specs.declared.frustum.Ends.{Ends}
-use Rattle.verdict.specs.Frustum.{planesOf, spanLeft, segmentOf}
+use Rattle.verdict.specs.Volume.{planesOf}
+use Rattle.verdict.specs.Frustum.{spanLeft, segmentOf}
 use Rattle.verdict.specs.Passes.{endsOf}
 use Rattle.verdict.proofs.Flags.{negated}
 use Rattle.verdict.proofs.frustum.intersects_segment.Statement.{statement}

@@ -7,7 +7,8 @@ use borrow.Author.Needs.{needs}
 use lib.Count.{trailingZeros}
 use lib.Ieee.{lt, ofBits, round, units, odd, size, span, climb}
 use Rattle.matrix.specs.Constants.{positiveZero, one}
-use Rattle.verdict.specs.Frustum.{spanLeft, planesOf}
+use Rattle.verdict.specs.Volume.{planeCount, planesOf}
+use Rattle.verdict.specs.Frustum.{spanLeft}
 use Rattle.verdict.proofs.PlanesLeft.{planesLeft}
 use Rattle.verdict.proofs.Passes.{nothing-left, some-left, all-passed}
 use Rattle.verdict.proofs.frustum.span_left.Statement.{statement}
@@ -15,10 +16,10 @@ use Rattle.verdict.proofs.frustum.span_left.Tie as tie
 
 abbrev Inv-loop : tie.InvT-loop
 Inv-loop volume a b span₀ i₀ span i =
-    (i ≤ 6) × (lt (span .end) (span .start) ≡ false) × (spanLeft (planesLeft volume i) a b (span .start) (span .end) ≡ spanLeft (planesOf volume) a b positiveZero one)
+    (i ≤ planeCount) × (lt (span .end) (span .start) ≡ false) × (spanLeft (planesLeft volume i) a b (span .start) (span .end) ≡ spanLeft (planesOf volume) a b positiveZero one)
 
 abbrev μ-loop : tie.MeasureT-loop
-μ-loop volume a b span₀ i₀ span i = 6 - i
+μ-loop volume a b span₀ i₀ span i = planeCount - i
 
 loop-holds : tie.Need-loop-holds Inv-loop μ-loop
 unfolding ofBits round units odd size span climb trailingZeros lt

@@ -9,7 +9,8 @@ use Rattle.number.specs.Answer.{Outcome, refused, result, unless, has}
 use Rattle.number.proofs.Refusals.{stops, passes}
 use Rattle.verdict.specs.BBox.{boxOf as loadedBox}
 use Rattle.verdict.specs.BBoxCalls.{flagged}
-use Rattle.verdict.specs.Frustum.{boxOf, planesOf}
+use Rattle.verdict.specs.Volume.{volumeLength, planesOf}
+use Rattle.verdict.specs.Frustum.{boxOf}
 use Rattle.verdict.specs.FrustumCalls.{intersectsBoxCall}
 use Rattle.verdict.proofs.Flags.{no-flag, is-flag}
 use Rattle.verdict.proofs.Same.{both}
@@ -20,15 +21,15 @@ module _ (v b : List Float) where
   abbrev rest : Outcome Bool
   rest = unless (flagged b) (refused 3) (result (boxOf (planesOf v) (loadedBox b)))
 
-  is : unless (has 48 v && has 23 b) (refused 1) rest ≡ intersectsBoxCall v b
+  is : unless (has volumeLength v && has 23 b) (refused 1) rest ≡ intersectsBoxCall v b
   unfolding intersectsBoxCall
   is = refl
 
-  short : (has 48 v && has 23 b) ≡ false → refused 1 ≡ intersectsBoxCall v b
-  short h = stops (has 48 v && has 23 b) (refused 1) rest h ∙ is
+  short : (has volumeLength v && has 23 b) ≡ false → refused 1 ≡ intersectsBoxCall v b
+  short h = stops (has volumeLength v && has 23 b) (refused 1) rest h ∙ is
 
-  left : (x : Outcome Bool) → (has 48 v && has 23 b) ≡ true → x ≡ rest → x ≡ intersectsBoxCall v b
-  left x h e = passes (has 48 v && has 23 b) (refused 1) rest x h e ∙ is
+  left : (x : Outcome Bool) → (has volumeLength v && has 23 b) ≡ true → x ≡ rest → x ≡ intersectsBoxCall v b
+  left x h e = passes (has volumeLength v && has 23 b) (refused 1) rest x h e ∙ is
 
 returns : tie.Need-returns
 returns c = short _ _ (both (ne-eqb _ _ (c .if1 .taken)) refl)

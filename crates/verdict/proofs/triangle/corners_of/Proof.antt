@@ -3,7 +3,8 @@ use mathlib.Core.Path.{_≡_, refl, ap, _∙_}
 use Prim.Native.Nat.{ℕ, _≤_}
 use native.Mathlib.Omega.{arith}
 use borrow.Author.Needs.{needs}
-use Rattle.verdict.specs.Frustum.{every, pointOf, planesFrom}
+use Rattle.verdict.specs.Volume.{planeCount, planesFrom}
+use Rattle.verdict.specs.Frustum.{every, pointOf}
 use Rattle.verdict.specs.Passes.{cornersOf}
 use Rattle.verdict.proofs.PlanesLeft.{planesLeft}
 use Rattle.verdict.proofs.Passes.{corners-next}
@@ -11,7 +12,7 @@ use Rattle.verdict.proofs.triangle.corners_of.Statement.{statement}
 use Rattle.verdict.proofs.triangle.corners_of.Tie as tie
 
 abbrev Inv-loop : tie.InvT-loop
-Inv-loop volume p0 p1 p2 corners₀ i₀ corners i = (i ≤ 6) × (corners ≡ cornersOf (planesLeft volume i) p0 p1 p2)
+Inv-loop volume p0 p1 p2 corners₀ i₀ corners i = (i ≤ planeCount) × (corners ≡ cornersOf (planesLeft volume i) p0 p1 p2)
 
 abbrev μ-loop : tie.MeasureT-loop
 μ-loop volume p0 p1 p2 corners₀ i₀ corners i = i

@@ -3,7 +3,8 @@ use mathlib.Core.Path.{sym, ap, _∙_}
 use mathlib.Core.Bool.{Bool, _&&_}
 use borrow.Author.Needs.{needs}
 use Rattle.matrix.specs.Constants.{positiveZero, one}
-use Rattle.verdict.specs.Frustum.{planesOf, spanLeft}
+use Rattle.verdict.specs.Volume.{planesOf}
+use Rattle.verdict.specs.Frustum.{spanLeft}
 use Rattle.verdict.proofs.triangle.crosses.Statement.{statement}
 use Rattle.verdict.proofs.triangle.crosses.Tie as tie
 

@@ -9,13 +9,14 @@ use lib.Ieee.{Float}
 use Rattle.matrix.specs.Constants.{positiveZero, one}
 use Rattle.matrix.specs.declared.vec.Vec3d.{Vec3d}
 use Rattle.verdict.specs.declared.triangle.Corners.{Corners}
-use Rattle.verdict.specs.Frustum.{every, planesOf, nearAndFar, pointOf, hasEnd, spanLeft, segmentOf, hasCorner, hasCorners, someHit, raysFrom, sightLines, triangleOf}
+use Rattle.verdict.specs.Volume.{rayCount, planesOf, nearAndFar, raysFrom}
+use Rattle.verdict.specs.Frustum.{every, pointOf, hasEnd, spanLeft, segmentOf, hasCorner, hasCorners, someHit, sightLines, triangleOf}
 use Rattle.verdict.specs.Passes.{cornersOf, sideLeft}
 use Rattle.verdict.proofs.Flags.{negated}
 use Rattle.verdict.proofs.triangle.intersects_triangle.Statement.{statement}
 use Rattle.verdict.proofs.triangle.intersects_triangle.Tie as tie
 
-few : (b : Bool) → cond b 1 4 ≤ 4
+few : (b : Bool) → cond b 1 rayCount ≤ rayCount
 few true = omega arith
 few false = omega arith
 
@@ -74,7 +75,7 @@ returns-3 c =
 line-meets-requires : tie.Need-line-meets-requires
 line-meets-requires c κs =
     let a = c .before .before .before .before .before .before .before .before .before .before .args in
-    (subst (λ (n : ℕ). n ≤ 4) (sym (c .sight-lines .ensures)) (few (every (hasCorners (a .p0) (a .p1) (a .p2)) (nearAndFar (a .volume .now)))), search needs)
+    (subst (λ (n : ℕ). n ≤ rayCount) (sym (c .sight-lines .ensures)) (few (every (hasCorners (a .p0) (a .p1) (a .p2)) (nearAndFar (a .volume .now)))), search needs)
 
 returns-4 : tie.Need-returns-4
 returns-4 c =

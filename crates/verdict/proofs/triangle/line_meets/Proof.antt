@@ -10,7 +10,8 @@ use lib.Ieee.{Float}
 use Rattle.matrix.specs.declared.vec.Vec3d.{Vec3d}
 use Rattle.verdict.specs.declared.ray.Ray.{Ray}
 use Rattle.verdict.specs.Ray.{triangleHit}
-use Rattle.verdict.specs.Frustum.{isHit, someHit, rayAt, raysFrom}
+use Rattle.verdict.specs.Volume.{rayAt, raysFrom}
+use Rattle.verdict.specs.Frustum.{isHit, someHit}
 use Rattle.verdict.proofs.triangle.line_meets.Statement.{statement}
 use Rattle.verdict.proofs.triangle.line_meets.Tie as tie
 

@@ -8,7 +8,8 @@ use Rattle.matrix.specs.declared.vec.Vec3d.{Vec3d}
 use Rattle.verdict.specs.declared.plane.Plane.{Plane}
 use Rattle.verdict.specs.declared.frustum.Ends.{Ends}
 use Rattle.verdict.specs.declared.triangle.Corners.{Corners}
-use Rattle.verdict.specs.Frustum.{planesOf, spanLeft}
+use Rattle.verdict.specs.Volume.{planesOf}
+use Rattle.verdict.specs.Frustum.{spanLeft}
 use Rattle.verdict.specs.Passes.{sideLeft}
 use Rattle.verdict.proofs.triangle.side_in_view.Statement.{statement}
 use Rattle.verdict.proofs.triangle.side_in_view.Tie as tie

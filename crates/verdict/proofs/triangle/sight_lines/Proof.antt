@@ -2,21 +2,23 @@
 use mathlib.Core.Path.{_≡_, sym, ap, _∙_}
 use mathlib.Core.Bool.{Bool, true, false, cond, _&&_}
 use mathlib.Core.List.{List}
+use Prim.Native.Nat.{_+_}
 use native.Mathlib.Omega.{arith}
 use borrow.Author.Needs.{needs}
 use lib.Ieee.{Float}
 use Rattle.matrix.specs.declared.vec.Vec3d.{Vec3d}
-use Rattle.verdict.specs.Frustum.{every, planeAt, planesFrom, hasCorners, sightLines}
+use Rattle.verdict.specs.Volume.{nearPlane, rayCount, planeAt, planesFrom}
+use Rattle.verdict.specs.Frustum.{every, hasCorners, sightLines}
 use Rattle.verdict.proofs.triangle.sight_lines.Statement.{statement}
 use Rattle.verdict.proofs.triangle.sight_lines.Tie as tie
 
 module _ (s : List Float) (a b c : Vec3d) where
-  tested : (x y : Bool) → x ≡ hasCorners a b c (planeAt s 4) → y ≡ hasCorners a b c (planeAt s 5) → cond (x && (y && true)) 1 4 ≡ sightLines s a b c
+  tested : (x y : Bool) → x ≡ hasCorners a b c (planeAt s nearPlane) → y ≡ hasCorners a b c (planeAt s (nearPlane + 1)) → cond (x && (y && true)) 1 rayCount ≡ sightLines s a b c
   unfolding every planesFrom
-  tested x y p q = λ i. cond (p i && (q i && true)) 1 4
+  tested x y p q = λ i. cond (p i && (q i && true)) 1 rayCount
 
-  not-first : false ≡ hasCorners a b c (planeAt s 4) → 4 ≡ sightLines s a b c
-  not-first p = tested false (hasCorners a b c (planeAt s 5)) p (λ i. hasCorners a b c (planeAt s 5))
+  not-first : false ≡ hasCorners a b c (planeAt s nearPlane) → rayCount ≡ sightLines s a b c
+  not-first p = tested false (hasCorners a b c (planeAt s (nearPlane + 1))) p (λ i. hasCorners a b c (planeAt s (nearPlane + 1)))
 
 returns : tie.Need-returns
 returns c =

@@ -1,12 +1,12 @@
--- `frustum::plane_at` meets its contract: a vector and a number of the record. Assumes nothing.
+-- `plane_at` meets its contract: a vector and a number of the record. Assumes nothing.
 use mathlib.Core.Path.{ap}
 use Prim.Native.Nat.{_+_, _*_}
 use borrow.Author.Needs.{needs}
 use Rattle.number.specs.Slice.{at}
 use Rattle.matrix.specs.declared.vec.Vec3d.{Vec3d}
 use Rattle.verdict.specs.Plane.{plane}
-use Rattle.verdict.proofs.frustum.plane_at.Statement.{statement}
-use Rattle.verdict.proofs.frustum.plane_at.Tie as tie
+use Rattle.verdict.proofs.volume.plane_at.Statement.{statement}
+use Rattle.verdict.proofs.volume.plane_at.Tie as tie
 
 returns : tie.Need-returns
 returns c =
