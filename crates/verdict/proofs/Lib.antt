@@ -24,7 +24,9 @@ pub mod PlacedCorners
 pub mod CombinedRecords
 pub mod Combining
 pub mod Turns
+pub mod Cuts
 pub mod PlanesLeft
+pub mod Masks
 pub mod Passes
 pub mod Choices
 pub mod Marked

@@ -1,67 +1,121 @@
--- One pass over the planes of a view: from the last plane to the first what was found, or the planes left decide. Assumes nothing.
+-- One pass over the planes of a view: from the last plane to the first their bits, or the planes left decide. Assumes nothing.
 use mathlib.Core.Path.{_≡_, refl, sym, ap, _∙_}
 use mathlib.Core.Bool.{Bool, true, false, not, _&&_, _||_, Bool·beq}
 use mathlib.Core.List.{List, _∷_}
-use Prim.Native.Nat.{ℕ, _+_, _<_}
+use Prim.Native.Nat.{ℕ, _+_, _-_, _*_, _/_, _%_, _^_, _<_, _≤_}
+use native.Mathlib.Omega.{arith}
+use mir.Val.{boolByte}
+use lib.Bits.{bitOr}
+use lib.Dec.{eqb}
 use lib.Ieee.{Float, lt}
+use lib.ListN.{length}
+use lib.Pow.{pow-mono}
 use Rattle.matrix.specs.declared.vec.Vec3d.{Vec3d}
 use Rattle.verdict.specs.declared.plane.Plane.{Plane}
-use Rattle.verdict.specs.declared.frustum.Ends.{Ends}
-use Rattle.verdict.specs.declared.triangle.Corners.{Corners}
 use Rattle.verdict.specs.Plane.{onPositiveSide}
-use Rattle.verdict.specs.Volume.{planeCount, planeAt}
-use Rattle.verdict.specs.Frustum.{every, pointOf, crossing, startCut, endCut, spanLeft}
-use Rattle.verdict.specs.Passes.{endsOf, endsPast, cornersOf, cornersPast}
-use Rattle.verdict.proofs.PlanesLeft.{planesLeft, next, none}
+use Rattle.verdict.specs.Volume.{planeCount, planeAt, planesOf}
+use Rattle.verdict.specs.Frustum.{every, pointOf, hasEnd, hasCorner, crossing, startCut, endCut, spanLeft}
+use Rattle.verdict.specs.Passes.{bit, maskOf, sidesOf, allPlanes}
+use Rattle.verdict.proofs.Cuts.{tested}
+use Rattle.verdict.proofs.Masks.{lowest, others, below, ones, either}
+use Rattle.verdict.proofs.PlanesLeft.{planesLeft, count, next, none}
 
--- ---- what was found, plane by plane
+-- ---- the bits of a point, plane by plane
 
--- the side of plane i that a point is on
-side : (s : List Float) (i : ℕ) (x : Vec3d) (p : Plane) (z : Bool) → p ≡ planeAt s i → z ≡ onPositiveSide p x → z ≡ onPositiveSide (planeAt s i) x
-side s i x p z e q = q ∙ ap (λ (t : Plane). onPositiveSide t x) e
+doubled : (m n : ℕ) (z : Bool) → m < n → m * 2 + boolByte z < n * 2
+doubled m n true h = omega arith
+doubled m n false h = omega arith
 
-module _ (s : List Float) (i k : ℕ) (h : i < planeCount) (l : k ≡ i + 1) (p : Plane) (e : p ≡ planeAt s i) where
-  grown : planeAt s i ∷ planesLeft s k ≡ planesLeft s i
-  grown = ap (λ (n : ℕ). planeAt s i ∷ planesLeft s n) l ∙ sym (next s i h)
+-- before the first plane there is room for one bit more
+pub room : (s : List Float) (i : ℕ) (x : Vec3d) (m : ℕ) (z : Bool) → 0 < i → m ≡ sidesOf (planesLeft s i) x → m * 2 + boolByte z < 2 ^ planeCount
+room s i x m z h e =
+    let ps = planesLeft s i in
+    let n : length ps ≤ planeCount - 1 = omega (arith, count s i (planeCount - i)) in
+    doubled m (2 ^ (planeCount - 1)) z (omega (arith, below (λ p. onPositiveSide p x) ps, pow-mono n))
 
-  pub ends-next : (a b : Vec3d) (x y : Bool) (f g : Ends) → x ≡ onPositiveSide p a → y ≡ onPositiveSide p b → f ≡ endsOf (planesLeft s k) a b → g ≡ endsPast x y f
-      → g ≡ endsOf (planesLeft s i) a b
-  unfolding every pointOf
-  ends-next a b x y f g u v q r =
-      r ∙ (λ t. endsPast (side s i a p x e u t) (side s i b p y e v t) (q t)) ∙ ap (λ (ps : List Plane). endsOf ps a b) grown
+same-bit : (z : Bool) → boolByte z ≡ bit z
+same-bit true = refl
+same-bit false = refl
 
-  pub corners-next : (a b c : Vec3d) (x y z : Bool) (f g : Corners) → x ≡ onPositiveSide p a → y ≡ onPositiveSide p b → z ≡ onPositiveSide p c
-      → f ≡ cornersOf (planesLeft s k) a b c → g ≡ cornersPast x y z f → g ≡ cornersOf (planesLeft s i) a b c
-  unfolding every pointOf
-  corners-next a b c x y z f g u v w q r =
-      r ∙ (λ t. cornersPast (side s i a p x e u t) (side s i b p y e v t) (side s i c p z e w t) (q t)) ∙ ap (λ (ps : List Plane). cornersOf ps a b c) grown
+pub sides-next : (s : List Float) (i k : ℕ) (p : Plane) (x : Vec3d) (z : Bool) (m : ℕ) → i < planeCount → k ≡ i + 1 → p ≡ planeAt s i → z ≡ onPositiveSide p x
+    → m ≡ sidesOf (planesLeft s k) x → m * 2 + boolByte z ≡ sidesOf (planesLeft s i) x
+unfolding maskOf
+sides-next s i k p x z m h l e q u =
+    ap (λ (b : ℕ). m * 2 + b) (same-bit z)
+    ∙ (λ t. u t * 2 + bit ((q ∙ ap (λ (r : Plane). onPositiveSide r x) e) t))
+    ∙ ap (λ (ps : List Plane). sidesOf ps x) (ap (λ (n : ℕ). planeAt s i ∷ planesLeft s n) l ∙ sym (next s i h))
+
+-- ---- what the bits say of the tests of the definitions
+
+module _ (s : List Float) where
+  full : (test : Plane → Bool) (m : ℕ) → m ≡ maskOf test (planesOf s) → every test (planesOf s) ≡ eqb m allPlanes
+  full test m e = ones test (planesOf s) ∙ (λ t. eqb (sym e t) (2 ^ count s 0 planeCount t - 1))
+
+  inside : (x : Vec3d) (m : ℕ) → m ≡ sidesOf (planesOf s) x → pointOf (planesOf s) x ≡ eqb m allPlanes
+  unfolding pointOf
+  inside x m e = full (λ p. onPositiveSide p x) m e
+
+  module _ (a b : Vec3d) (m n : ℕ) (u : m ≡ sidesOf (planesOf s) a) (v : n ≡ sidesOf (planesOf s) b) where
+    either-side : bitOr m n ≡ maskOf (hasEnd a b) (planesOf s)
+    either-side = (λ t. bitOr (u t) (v t)) ∙ either (λ p. onPositiveSide p a) (λ p. onPositiveSide p b) (planesOf s)
+
+    pub some-end : every (hasEnd a b) (planesOf s) ≡ eqb (bitOr m n) allPlanes
+    some-end = full (hasEnd a b) (bitOr m n) either-side
+
+    pub end-inside : (pointOf (planesOf s) a || pointOf (planesOf s) b) ≡ (eqb m allPlanes || eqb n allPlanes)
+    end-inside = λ t. inside a m u t || inside b n v t
+
+    pub some-corner : (c : Vec3d) (o : ℕ) → o ≡ sidesOf (planesOf s) c → every (hasCorner a b c) (planesOf s) ≡ eqb (bitOr (bitOr m n) o) allPlanes
+    some-corner c o w =
+        full (hasCorner a b c) (bitOr (bitOr m n) o) ((λ t. bitOr (either-side t) (w t)) ∙ either (hasEnd a b) (λ p. onPositiveSide p c) (planesOf s))
+
+    pub corner-inside : (c : Vec3d) (o : ℕ) → o ≡ sidesOf (planesOf s) c
+        → (pointOf (planesOf s) a || pointOf (planesOf s) b || pointOf (planesOf s) c) ≡ (eqb m allPlanes || eqb n allPlanes || eqb o allPlanes)
+    corner-inside c o w = λ t. end-inside t || inside c o w t
 
 -- ---- what is left of a segment
 
--- A plane that does not cut a span that is there leaves it there, so that the test may be made for it too.
-tested : (i j : Bool) (start end at : Float) (rest : Bool) → lt end start ≡ false
-    → ((Bool·beq i j || not (lt (endCut i j end at) (startCut i j start at))) && rest) ≡ (not (lt (endCut i j end at) (startCut i j start at)) && rest)
-tested true true start end at rest n = sym (ap (λ (z : Bool). not z && rest) n)
-tested true false start end at rest n = refl
-tested false true start end at rest n = refl
-tested false false start end at rest n = sym (ap (λ (z : Bool). not z && rest) n)
+-- the bit of the first plane
+abbrev pub first : ℕ → Bool
+first m = eqb (m % 2) 1
 
-module _ (s : List Float) (i : ℕ) (h : i < planeCount) (a b : Vec3d) (p : Plane) (e : p ≡ planeAt s i) (start end start' end' : Float) (n : lt end start ≡ false)
-    (q : start' ≡ startCut (onPositiveSide p a) (onPositiveSide p b) start (crossing p a b))
-    (r : end' ≡ endCut (onPositiveSide p a) (onPositiveSide p b) end (crossing p a b)) where
-  cut : spanLeft (planesLeft s i) a b start end ≡ (not (lt end' start') && spanLeft (planesLeft s (i + 1)) a b start' end')
-  unfolding spanLeft
-  cut =
-      ap (λ (ps : List Plane). spanLeft ps a b start end) (next s i h ∙ ap (λ (t : Plane). t ∷ planesLeft s (i + 1)) (sym e))
-      ∙ tested (onPositiveSide p a) (onPositiveSide p b) start end (crossing p a b)
-      (spanLeft (planesLeft s (i + 1)) a b (startCut (onPositiveSide p a) (onPositiveSide p b) start (crossing p a b)) (endCut (onPositiveSide p a) (onPositiveSide p b) end (crossing p a b))) n
-      ∙ sym (λ t. not (lt (r t) (q t)) && spanLeft (planesLeft s (i + 1)) a b (q t) (r t))
+module _ (s : List Float) (i : ℕ) (h : i < planeCount) where
+  module _ (x : Vec3d) (m : ℕ) (e : m ≡ sidesOf (planesLeft s i) x) where
+    split : m ≡ sidesOf (planesLeft s (i + 1)) x * 2 + bit (onPositiveSide (planeAt s i) x)
+    unfolding maskOf
+    split = e ∙ ap (λ (ps : List Plane). sidesOf ps x) (next s i h)
 
-  pub nothing-left : lt end' start' ≡ true → false ≡ spanLeft (planesLeft s i) a b start end
-  nothing-left z = sym (cut ∙ ap (λ (t : Bool). not t && spanLeft (planesLeft s (i + 1)) a b start' end') z)
+    first-side : first m ≡ onPositiveSide (planeAt s i) x
+    first-side = ap first split ∙ lowest (sidesOf (planesLeft s (i + 1)) x) (onPositiveSide (planeAt s i) x)
 
-  pub some-left : lt end' start' ≡ false → spanLeft (planesLeft s (i + 1)) a b start' end' ≡ spanLeft (planesLeft s i) a b start end
-  some-left z = sym (cut ∙ ap (λ (t : Bool). not t && spanLeft (planesLeft s (i + 1)) a b start' end') z)
+    pub other-sides : m / 2 ≡ sidesOf (planesLeft s (i + 1)) x
+    other-sides = ap (λ (n : ℕ). n / 2) split ∙ others (sidesOf (planesLeft s (i + 1)) x) (onPositiveSide (planeAt s i) x)
+
+  module _ (a b : Vec3d) (m n : ℕ) (u : m ≡ sidesOf (planesLeft s i) a) (v : n ≡ sidesOf (planesLeft s i) b) (p : Plane) (e : p ≡ planeAt s i)
+      (start end start' end' : Float) (z : lt end start ≡ false) (q : start' ≡ startCut (first m) (first n) start (crossing p a b))
+      (r : end' ≡ endCut (first m) (first n) end (crossing p a b)) where
+    -- the planes left after a cut by a plane that the ends are on these sides of
+    abbrev after : Bool → Bool → Plane → Bool
+    after x y t = spanLeft (planesLeft s (i + 1)) a b (startCut x y start (crossing t a b)) (endCut x y end (crossing t a b))
+
+    abbrev there : Bool → Bool → Plane → Bool
+    there x y t = not (lt (endCut x y end (crossing t a b)) (startCut x y start (crossing t a b)))
+
+    cut : spanLeft (planesLeft s i) a b start end ≡ (not (lt end' start') && spanLeft (planesLeft s (i + 1)) a b start' end')
+    unfolding spanLeft
+    cut =
+        let f = first-side a m u in
+        let g = first-side b n v in
+        ap (λ (ps : List Plane). spanLeft ps a b start end) (next s i h)
+        ∙ sym (λ t. (Bool·beq (f t) (g t) || there (f t) (g t) (e t)) && after (f t) (g t) (e t))
+        ∙ ap (λ (w : Bool). w && after (first m) (first n) p) (tested (first m) (first n) start end (crossing p a b) z)
+        ∙ sym (λ t. not (lt (r t) (q t)) && spanLeft (planesLeft s (i + 1)) a b (q t) (r t))
+
+    pub nothing-left : lt end' start' ≡ true → false ≡ spanLeft (planesLeft s i) a b start end
+    nothing-left w = sym (cut ∙ ap (λ (t : Bool). not t && spanLeft (planesLeft s (i + 1)) a b start' end') w)
+
+    pub some-left : lt end' start' ≡ false → spanLeft (planesLeft s (i + 1)) a b start' end' ≡ spanLeft (planesLeft s i) a b start end
+    some-left w = sym (cut ∙ ap (λ (t : Bool). not t && spanLeft (planesLeft s (i + 1)) a b start' end') w)
 
 pub all-passed : (s : List Float) (i : ℕ) (a b : Vec3d) (start end : Float) → i ≡ planeCount → true ≡ spanLeft (planesLeft s i) a b start end
 unfolding spanLeft

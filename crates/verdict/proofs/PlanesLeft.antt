@@ -1,11 +1,12 @@
 -- A loop over the planes of a view: the planes left decide. Assumes nothing.
-use mathlib.Core.Path.{_≡_, sym, ap, _∙_}
+use mathlib.Core.Path.{_≡_, refl, sym, ap, _∙_}
 use mathlib.Core.Bool.{Bool, true, false, not, _&&_}
 use mathlib.Core.List.{List, [], _∷_}
-use Prim.Native.Nat.{ℕ, suc, _+_, _-_, _<_}
+use Prim.Native.Nat.{ℕ, zero, suc, _+_, _-_, _<_}
 use native.Mathlib.Numerals.{add-one}
 use native.Mathlib.Omega.{arith}
 use lib.Ieee.{Float}
+use lib.ListN.{length}
 use Rattle.verdict.specs.declared.plane.Plane.{Plane}
 use Rattle.verdict.specs.Volume.{planeCount, planeAt, planesFrom}
 use Rattle.verdict.specs.Frustum.{every}
@@ -14,6 +15,11 @@ use Rattle.verdict.proofs.Flags.{negated}
 -- the planes from plane i on
 abbrev pub planesLeft : List Float → ℕ → List Plane
 planesLeft s i = planesFrom s i (planeCount - i)
+
+pub count : (s : List Float) (i n : ℕ) → length (planesFrom s i n) ≡ n
+unfolding planesFrom
+count s i zero = refl
+count s i (suc n) = ap suc (count s (suc i) n)
 
 pub next : (s : List Float) (i : ℕ) → i < planeCount → planesLeft s i ≡ planeAt s i ∷ planesLeft s (i + 1)
 unfolding planesFrom

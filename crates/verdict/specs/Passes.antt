@@ -1,10 +1,10 @@
 -- What one pass over the planes of a view, or over the corners of a box, has found so far. They serve the contracts of private
 -- functions; no verdict's definition speaks of them. Definitions only.
-use Prim.Native.Nat.{ℕ}
-use mathlib.Core.Bool.{Bool, _&&_, _||_}
-use mathlib.Core.List.{List}
+use Prim.Native.Nat.{ℕ, _+_, _-_, _*_, _^_}
+use mathlib.Core.Bool.{Bool, true, false, _&&_, _||_}
+use mathlib.Core.List.{List, [], _∷_}
 use lib.Ieee.{lt, neg}
-use Rattle.matrix.specs.Constants.{positiveZero, one}
+use Rattle.matrix.specs.Constants.{one}
 use Rattle.matrix.specs.Transform.{homogeneous}
 use Rattle.matrix.specs.Range.{corner}
 use Rattle.matrix.specs.declared.vec.Vec3d.{Vec3d}
@@ -12,39 +12,29 @@ use Rattle.matrix.specs.declared.vec.Vec4d.{Vec4d}
 use Rattle.matrix.specs.declared.range.Range3d.{Range3d}
 use Rattle.matrix.specs.declared.matrix.Mat4d.{Mat4d}
 use Rattle.verdict.specs.declared.plane.Plane.{Plane}
-use Rattle.verdict.specs.declared.frustum.Ends.{Ends}
-use Rattle.verdict.specs.declared.triangle.Corners.{Corners}
 use Rattle.verdict.specs.declared.view_volume.Sides.{Sides}
-use Rattle.verdict.specs.Frustum.{every, pointOf, hasEnd, hasCorner, spanLeft, someBelow}
+use Rattle.verdict.specs.Plane.{onPositiveSide}
+use Rattle.verdict.specs.Volume.{planeCount}
+use Rattle.verdict.specs.Frustum.{someBelow}
 
--- ---- the ends of a segment, before the planes passed
+-- ---- the planes that pass a test, as the bits of a number
 
-abbrev pub endsOf : List Plane → Vec3d → Vec3d → Ends
-endsOf ps a b = record { some = every (hasEnd a b) ps; first = pointOf ps a; second = pointOf ps b }
+abbrev pub bit : Bool → ℕ
+bit true = 1
+bit false = 0
 
--- with a further plane, that has the ends on its positive side or not
-abbrev pub endsPast : Bool → Bool → Ends → Ends
-endsPast i j e = record { some = (i || j) && e .some; first = i && e .first; second = j && e .second }
+-- the lowest bit is of the first plane
+unfoldable pub maskOf : (Plane → Bool) → List Plane → ℕ
+maskOf test [] = 0
+maskOf test (p ∷ ps) = maskOf test ps * 2 + bit (test p)
 
--- ---- the corners of a triangle, and the ends of its sides
+-- those that have a point on their positive side
+abbrev pub sidesOf : List Plane → Vec3d → ℕ
+sidesOf ps x = maskOf (λ p. onPositiveSide p x) ps
 
-abbrev pub cornersOf : List Plane → Vec3d → Vec3d → Vec3d → Corners
-cornersOf ps a b c = record { some = every (hasCorner a b c) ps; side01 = endsOf ps a b; side12 = endsOf ps b c; side20 = endsOf ps c a }
-
-abbrev pub cornersPast : Bool → Bool → Bool → Corners → Corners
-cornersPast i j k s = record {
-  some = (i || j || k) && s .some;
-  side01 = endsPast i j (s .side01);
-  side12 = endsPast j k (s .side12);
-  side20 = endsPast k i (s .side20);
-}
-
--- some of a side is left, of sides with all ends outside
-abbrev pub sideLeft : List Plane → Corners → Vec3d → Vec3d → Vec3d → Bool
-sideLeft ps s a b c =
-    s .side01 .some && spanLeft ps a b positiveZero one
-    || s .side12 .some && spanLeft ps b c positiveZero one
-    || s .side20 .some && spanLeft ps c a positiveZero one
+-- all of a view's
+abbrev pub allPlanes : ℕ
+allPlanes = 2 ^ planeCount - 1
 
 -- ---- the bounds of clip space that some corner of a box is inside of
 

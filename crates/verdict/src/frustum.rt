@@ -2,12 +2,12 @@
 ghost use mathlib.Core.Path.{_≡_};
 ghost use lib.ListN.{length};
 ghost use Rattle.matrix.specs.Constants.{positiveZero, one};
-ghost use Rattle.verdict.specs.Plane.{onPositiveSide};
-ghost use Rattle.verdict.specs.Passes.{endsOf, endsPast};
+ghost use Rattle.verdict.specs.Passes.{sidesOf};
 ghost use Rattle.verdict.specs.Volume.{volumeLength, planesOf};
 ghost use Rattle.verdict.specs.Frustum.{pointOf, crossing, startCut, endCut, spanLeft, segmentOf, intoSpaceOf, boxOf};
 use crate::bbox::BBox3d;
 use crate::plane::Plane;
+use crate::volume::ALL_PLANES;
 use crate::volume::PLANE_COUNT;
 use crate::volume::plane_at;
 use matrix::matrix::Mat4d;
@@ -29,45 +29,18 @@ pub(crate) fn intersects_point(volume: &[f64], p: Vec3d) -> bool
     true
 }
 
-// Whether each plane passed has one end of a segment at least on its positive side, whether each has the first there, and whether
-// each has the second.
-pub(crate) struct Ends {
-    pub(crate) some: bool,
-    pub(crate) first: bool,
-    pub(crate) second: bool,
-}
-
-impl Ends {
-    pub(crate) const UNTESTED: Ends = Ends {
-        some: true,
-        first: true,
-        second: true,
-    };
-
-    // Past one plane more.
-    pub(crate) fn past(self, first: bool, second: bool) -> Ends
-        ensures { λ r. ⌜ r ≡ endsPast first second self ⌝ }
-    {
-        Ends {
-            some: (first | second) & self.some,
-            first: first & self.first,
-            second: second & self.second,
-        }
-    }
-}
-
-fn ends_of(volume: &[f64], a: Vec3d, b: Vec3d) -> Ends
+// The planes that have a point on their positive side, one bit for each, that of the first plane lowest.
+pub(crate) fn sides_of(volume: &[f64], p: Vec3d) -> u32
     requires { ⌜ length (now volume) ≡ volumeLength ⌝ }
-    ensures { λ r. ⌜ r ≡ endsOf (planesOf (now (volume .entry))) a b ⌝ }
+    ensures { λ r. ⌜ r ≡ sidesOf (planesOf (now (volume .entry))) p ⌝ }
 {
-    let mut ends = Ends::UNTESTED;
+    let mut sides: u32 = 0;
     let mut i: u32 = PLANE_COUNT;
     while 0 < i {
         i -= 1;
-        let plane = plane_at(volume, i);
-        ends = ends.past(plane.on_positive_side(a), plane.on_positive_side(b));
+        sides = sides * 2 + plane_at(volume, i).on_positive_side(p) as u32;
     }
-    ends
+    sides
 }
 
 // Where the segment from a to b meets a plane, as a number that is 0 at a and 1 at b.
@@ -84,12 +57,12 @@ struct Span {
 }
 
 impl Span {
-    // Past one plane more.
-    fn cut(self, plane: Plane, a: Vec3d, b: Vec3d) -> Span
-        ensures { λ r. ⌜ (r .start ≡ startCut (onPositiveSide plane a) (onPositiveSide plane b) (self .start) (crossing plane a b)) × (r .end ≡ endCut (onPositiveSide plane a) (onPositiveSide plane b) (self .end) (crossing plane a b)) ⌝ }
+    // Past one plane more, that has a or b on its positive side or not.
+    fn cut(self, plane: Plane, a: Vec3d, in_a: bool, b: Vec3d, in_b: bool) -> Span
+        ensures { λ r. ⌜ (r .start ≡ startCut «in_a» «in_b» (self .start) (crossing plane a b)) × (r .end ≡ endCut «in_a» «in_b» (self .end) (crossing plane a b)) ⌝ }
     {
-        if plane.on_positive_side(a) {
-            if plane.on_positive_side(b) {
+        if in_a {
+            if in_b {
                 return self;
             }
             return Span {
@@ -97,7 +70,7 @@ impl Span {
                 end: order::min(self.end, crossing(plane, a, b)),
             };
         }
-        if plane.on_positive_side(b) {
+        if in_b {
             return Span {
                 start: order::max(self.start, crossing(plane, a, b)),
                 end: self.end,
@@ -107,39 +80,55 @@ impl Span {
     }
 }
 
-// Whether the planes leave some of a segment, by where it crosses them.
-pub(crate) fn span_left(volume: &[f64], a: Vec3d, b: Vec3d) -> bool
-    requires { ⌜ length (now volume) ≡ volumeLength ⌝ }
+// Whether the planes leave some of a segment, by where it crosses those that have one end alone on their positive side.
+fn span_left(volume: &[f64], a: Vec3d, a_sides: u32, b: Vec3d, b_sides: u32) -> bool
+    requires { ⌜ (length (now volume) ≡ volumeLength) × («a_sides» ≡ sidesOf (planesOf (now volume)) a) × («b_sides» ≡ sidesOf (planesOf (now volume)) b) ⌝ }
     ensures { λ r. ⌜ r ≡ spanLeft (planesOf (now (volume .entry))) a b positiveZero one ⌝ }
 {
     let mut span = Span {
         start: 0.0,
         end: 1.0,
     };
+    let mut a_left = a_sides;
+    let mut b_left = b_sides;
     let mut i: u32 = 0;
     while i < PLANE_COUNT {
-        span = span.cut(plane_at(volume, i), a, b);
+        span = span.cut(plane_at(volume, i), a, a_left % 2 == 1, b, b_left % 2 == 1);
         if span.start > span.end {
             return false;
         }
+        a_left = a_left / 2;
+        b_left = b_left / 2;
         i += 1;
     }
     true
 }
 
-// Whether some of a segment is on the positive side of every plane.
+// Whether some of a segment is on the positive side of every plane, by the planes that have its ends there.
+pub(crate) fn segment_in_view(
+    volume: &[f64],
+    a: Vec3d,
+    a_sides: u32,
+    b: Vec3d,
+    b_sides: u32,
+) -> bool
+    requires { ⌜ (length (now volume) ≡ volumeLength) × («a_sides» ≡ sidesOf (planesOf (now volume)) a) × («b_sides» ≡ sidesOf (planesOf (now volume)) b) ⌝ }
+    ensures { λ r. ⌜ r ≡ segmentOf (planesOf (now (volume .entry))) a b ⌝ }
+{
+    if a_sides | b_sides != ALL_PLANES {
+        return false;
+    }
+    if (a_sides == ALL_PLANES) | (b_sides == ALL_PLANES) {
+        return true;
+    }
+    span_left(volume, a, a_sides, b, b_sides)
+}
+
 pub(crate) fn intersects_segment(volume: &[f64], a: Vec3d, b: Vec3d) -> bool
     requires { ⌜ length (now volume) ≡ volumeLength ⌝ }
     ensures { λ r. ⌜ r ≡ segmentOf (planesOf (now (volume .entry))) a b ⌝ }
 {
-    let ends = ends_of(volume, a, b);
-    if !ends.some {
-        return false;
-    }
-    if ends.first | ends.second {
-        return true;
-    }
-    span_left(volume, a, b)
+    segment_in_view(volume, a, sides_of(volume, a), b, sides_of(volume, b))
 }
 
 // The matrix that carries planes into the space of a box; a degenerate box is taken as if its matrix were the identity.

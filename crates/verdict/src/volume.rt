@@ -9,6 +9,9 @@ use crate::record::vec3_at;
 
 pub(crate) const PLANE_COUNT: u32 = 6;
 
+// A bit for each plane.
+pub(crate) const ALL_PLANES: u32 = (1 << PLANE_COUNT) - 1;
+
 pub(crate) const NEAR_PLANE: u32 = 4;
 
 pub(crate) const FAR_PLANE: u32 = NEAR_PLANE + 1;

@@ -9,28 +9,31 @@ use lib.Ieee.{lt, ofBits, round, units, odd, size, span, climb}
 use Rattle.matrix.specs.Constants.{positiveZero, one}
 use Rattle.verdict.specs.Volume.{planeCount, planesOf}
 use Rattle.verdict.specs.Frustum.{spanLeft}
+use Rattle.verdict.specs.Passes.{sidesOf}
 use Rattle.verdict.proofs.PlanesLeft.{planesLeft}
-use Rattle.verdict.proofs.Passes.{nothing-left, some-left, all-passed}
+use Rattle.verdict.proofs.Passes.{other-sides, nothing-left, some-left, all-passed}
 use Rattle.verdict.proofs.frustum.span_left.Statement.{statement}
 use Rattle.verdict.proofs.frustum.span_left.Tie as tie
 
 abbrev Inv-loop : tie.InvT-loop
-Inv-loop volume a b span₀ i₀ span i =
-    (i ≤ planeCount) × (lt (span .end) (span .start) ≡ false) × (spanLeft (planesLeft volume i) a b (span .start) (span .end) ≡ spanLeft (planesOf volume) a b positiveZero one)
+Inv-loop volume a a-sides b b-sides span₀ a-left₀ b-left₀ i₀ span a-left b-left i =
+    (i ≤ planeCount) × (lt (span .end) (span .start) ≡ false) × (a-left ≡ sidesOf (planesLeft volume i) a) × (b-left ≡ sidesOf (planesLeft volume i) b)
+    × (spanLeft (planesLeft volume i) a b (span .start) (span .end) ≡ spanLeft (planesOf volume) a b positiveZero one)
 
 abbrev μ-loop : tie.MeasureT-loop
-μ-loop volume a b span₀ i₀ span i = planeCount - i
+μ-loop volume a a-sides b b-sides span₀ a-left₀ b-left₀ i₀ span a-left b-left i = planeCount - i
 
 loop-holds : tie.Need-loop-holds Inv-loop μ-loop
 unfolding ofBits round units odd size span climb trailingZeros lt
-loop-holds c = (omega arith, refl, refl)
+loop-holds c = (omega arith, refl, c .before .pre .1, c .before .pre .2, refl)
 
 returns : tie.Need-returns Inv-loop μ-loop
 returns c =
     let after = c .before .before in
     let at = after .before in
     let l = at .before .before .loop in
-    nothing-left _ (l .i) (omega arith) _ _ _ (at .plane-at .ensures) _ _ _ _ (l .inv .1) (after .cut .ensures .0) (after .cut .ensures .1) (c .if1 .taken) ∙ l .inv .2
+    nothing-left _ (l .i) (omega arith) _ _ _ _ (l .inv .2) (l .inv .3) _ (at .plane-at .ensures) _ _ _ _ (l .inv .1) (after .cut .ensures .0) (after .cut .ensures .1) (c .if1 .taken)
+    ∙ l .inv .4
 
 loop-again : tie.Need-loop-again Inv-loop μ-loop
 loop-again c =
@@ -39,11 +42,14 @@ loop-again c =
     let l = at .before .before .loop in (
       omega arith,
       c .if1 .left,
-      some-left _ (l .i) (omega arith) _ _ _ (at .plane-at .ensures) _ _ _ _ (l .inv .1) (after .cut .ensures .0) (after .cut .ensures .1) (c .if1 .left) ∙ l .inv .2,
+      other-sides _ (l .i) (omega arith) _ _ (l .inv .2),
+      other-sides _ (l .i) (omega arith) _ _ (l .inv .3),
+      some-left _ (l .i) (omega arith) _ _ _ _ (l .inv .2) (l .inv .3) _ (at .plane-at .ensures) _ _ _ _ (l .inv .1) (after .cut .ensures .0) (after .cut .ensures .1) (c .if1 .left)
+          ∙ l .inv .4,
     )
 
 returns-2 : tie.Need-returns-2 Inv-loop μ-loop
-returns-2 c = let l = c .before .loop in all-passed _ (l .i) _ _ _ _ (omega arith) ∙ l .inv .2
+returns-2 c = let l = c .before .loop in all-passed _ (l .i) _ _ _ _ (omega arith) ∙ l .inv .4
 
 pub span-left-spec : {M : Type 1} → statement M
 span-left-spec =

@@ -5,14 +5,15 @@ use mathlib.Core.List.{List}
 use Prim.Native.Nat.{ℕ, _≤_}
 use native.Mathlib.Omega.{arith}
 use borrow.Author.Needs.{needs}
+use borrow.Author.Tests.{eq-eqb, ne-eqb}
+use lib.Bits.{bitOr}
+use lib.Dec.{eqb}
 use lib.Ieee.{Float}
-use Rattle.matrix.specs.Constants.{positiveZero, one}
 use Rattle.matrix.specs.declared.vec.Vec3d.{Vec3d}
-use Rattle.verdict.specs.declared.triangle.Corners.{Corners}
 use Rattle.verdict.specs.Volume.{rayCount, planesOf, nearAndFar, raysFrom}
-use Rattle.verdict.specs.Frustum.{every, pointOf, hasEnd, spanLeft, segmentOf, hasCorner, hasCorners, someHit, sightLines, triangleOf}
-use Rattle.verdict.specs.Passes.{cornersOf, sideLeft}
-use Rattle.verdict.proofs.Flags.{negated}
+use Rattle.verdict.specs.Frustum.{every, segmentOf, hasCorners, someHit, sightLines, triangleOf}
+use Rattle.verdict.specs.Passes.{sidesOf, allPlanes}
+use Rattle.verdict.proofs.Passes.{some-corner, corner-inside}
 use Rattle.verdict.proofs.triangle.intersects_triangle.Statement.{statement}
 use Rattle.verdict.proofs.triangle.intersects_triangle.Tie as tie
 
@@ -20,75 +21,99 @@ few : (b : Bool) → cond b 1 rayCount ≤ rayCount
 few true = omega arith
 few false = omega arith
 
--- where no corner is inside, a side is in view if something of it is left
-outside : (a b c e f g u v w h : Bool)
-    → (a || b || c || (e && u || f && v || g && w) || h) ≡ (a || b || c || e && (a || b || u) || f && (b || c || v) || g && (c || a || w) || h)
-outside true b c e f g u v w h = refl
-outside false true c e f g u v w h = refl
-outside false false true e f g u v w h = refl
-outside false false false e f g u v w h = refl
-
-module _ (s : List Float) (a b c : Vec3d) (k : Corners) (q : k ≡ cornersOf (planesOf s) a b c) where
-  abbrev inside : Corners → Bool
-  inside m = m .side01 .first || m .side12 .first || m .side20 .first
-
-  abbrev lines : Bool
-  lines = someHit (raysFrom s 0 (sightLines s a b c)) a b c
-
-  abbrev left : Vec3d → Vec3d → Bool
-  left x y = spanLeft (planesOf s) x y positiveZero one
-
-  found : cornersOf (planesOf s) a b c .some && (inside (cornersOf (planesOf s) a b c) || sideLeft (planesOf s) (cornersOf (planesOf s) a b c) a b c || lines) ≡ triangleOf s a b c
-  unfolding triangleOf segmentOf
-  found =
-      let ps = planesOf s in
-      ap (λ (z : Bool). every (hasCorner a b c) ps && z)
-      (outside (pointOf ps a) (pointOf ps b) (pointOf ps c) (every (hasEnd a b) ps) (every (hasEnd b c) ps) (every (hasEnd c a) ps) (left a b) (left b c) (left c a) lines)
-
-  settled : (x y z h : Bool) → k .some ≡ x → inside k ≡ y → z ≡ sideLeft (planesOf s) k a b c → h ≡ lines → (x && (y || z || h)) ≡ triangleOf s a b c
-  settled x y z h n m r l =
-      sym (λ t. n t && (m t || z || h)) ∙ (λ t. k .some && (inside k || r t || l t))
-      ∙ (λ t. q t .some && (inside (q t) || sideLeft (planesOf s) (q t) a b c || lines)) ∙ found
+module _ (s : List Float) (a b c : Vec3d) (m n o : ℕ) (u : m ≡ sidesOf (planesOf s) a) (v : n ≡ sidesOf (planesOf s) b) (w : o ≡ sidesOf (planesOf s) c) where
+  settled : (x y z₀ z₁ z₂ h : Bool) → eqb (bitOr (bitOr m n) o) allPlanes ≡ x → (eqb m allPlanes || eqb n allPlanes || eqb o allPlanes) ≡ y
+      → z₀ ≡ segmentOf (planesOf s) a b → z₁ ≡ segmentOf (planesOf s) b c → z₂ ≡ segmentOf (planesOf s) c a → h ≡ someHit (raysFrom s 0 (sightLines s a b c)) a b c
+      → (x && (y || z₀ || z₁ || z₂ || h)) ≡ triangleOf s a b c
+  unfolding triangleOf
+  settled x y z₀ z₁ z₂ h p q e f g l =
+      let i = sym (some-corner s a b m n u v c o w ∙ p) in
+      let j = sym (corner-inside s a b m n u v c o w ∙ q) in
+      λ t. i t && (j t || e t || f t || g t || l t)
 
 returns : tie.Need-returns
 returns c =
-    let found = c .before .before in
-    let a = found .before .before .args in
-    settled (a .volume .now) (a .p0) (a .p1) (a .p2) _ (found .corners-of .ensures) false _ _ _ (negated _ true (c .if1 .taken)) refl refl refl
+    let third = c .before in
+    let second = third .before in
+    let first = second .before in
+    let a = first .before .before .args in
+    settled (a .volume .now) (a .p0) (a .p1) (a .p2) _ _ _ (first .sides-of .ensures) (second .sides-of2 .ensures) (third .sides-of3 .ensures)
+    false _ _ _ _ _ (ne-eqb _ _ (c .if1 .taken)) refl refl refl refl refl
 
 returns-2 : tie.Need-returns-2
 returns-2 c =
-    let some = c .before .before .before in
-    let found = some .before .before in
-    let a = found .before .before .args in
-    settled (a .volume .now) (a .p0) (a .p1) (a .p2) _ (found .corners-of .ensures) true true _ _ (negated _ false (some .if1 .left)) (c .if2 .taken) refl refl
+    let some = c .before in
+    let third = some .before in
+    let second = third .before in
+    let first = second .before in
+    let a = first .before .before .args in
+    settled (a .volume .now) (a .p0) (a .p1) (a .p2) _ _ _ (first .sides-of .ensures) (second .sides-of2 .ensures) (third .sides-of3 .ensures)
+    true true _ _ _ _ (eq-eqb _ _ (some .if1 .left)) (c .if2 .taken) refl refl refl refl
 
 returns-3 : tie.Need-returns-3
 returns-3 c =
-    let out = c .before .before in
-    let some = out .before .before .before in
-    let found = some .before .before in
-    let a = found .before .before .args in
-    settled (a .volume .now) (a .p0) (a .p1) (a .p2) _ (found .corners-of .ensures) true false true _ (negated _ false (some .if1 .left)) (out .if2 .left)
-    (sym (c .if3 .taken) ∙ c .before .side-in-view .ensures) refl
-
-line-meets-requires : tie.Need-line-meets-requires
-line-meets-requires c κs =
-    let a = c .before .before .before .before .before .before .before .before .before .before .args in
-    (subst (λ (n : ℕ). n ≤ rayCount) (sym (c .sight-lines .ensures)) (few (every (hasCorners (a .p0) (a .p1) (a .p2)) (nearAndFar (a .volume .now)))), search needs)
+    let side01 = c .before in
+    let out = side01 .before in
+    let some = out .before in
+    let third = some .before in
+    let second = third .before in
+    let first = second .before in
+    let a = first .before .before .args in
+    settled (a .volume .now) (a .p0) (a .p1) (a .p2) _ _ _ (first .sides-of .ensures) (second .sides-of2 .ensures) (third .sides-of3 .ensures)
+    true false true _ _ _ (eq-eqb _ _ (some .if1 .left)) (out .if2 .left) (sym (c .if3 .taken) ∙ side01 .segment-in-view .ensures) refl refl refl
 
 returns-4 : tie.Need-returns-4
 returns-4 c =
-    let none = c .before .before in
-    let out = none .before .before in
-    let some = out .before .before .before in
-    let found = some .before .before in
-    let a = found .before .before .args in
-    settled (a .volume .now) (a .p0) (a .p1) (a .p2) _ (found .corners-of .ensures) true false false _ (negated _ false (some .if1 .left)) (out .if2 .left)
-    (sym (none .if3 .left) ∙ none .before .side-in-view .ensures)
+    let side12 = c .before in
+    let not01 = side12 .before in
+    let out = not01 .before .before in
+    let some = out .before in
+    let third = some .before in
+    let second = third .before in
+    let first = second .before in
+    let a = first .before .before .args in
+    settled (a .volume .now) (a .p0) (a .p1) (a .p2) _ _ _ (first .sides-of .ensures) (second .sides-of2 .ensures) (third .sides-of3 .ensures)
+    true false false true _ _ (eq-eqb _ _ (some .if1 .left)) (out .if2 .left) (sym (not01 .if3 .left) ∙ not01 .before .segment-in-view .ensures)
+    (sym (c .if4 .taken) ∙ side12 .segment-in-view2 .ensures) refl refl
+
+returns-5 : tie.Need-returns-5
+returns-5 c =
+    let side20 = c .before in
+    let not12 = side20 .before in
+    let not01 = not12 .before .before in
+    let out = not01 .before .before in
+    let some = out .before in
+    let third = some .before in
+    let second = third .before in
+    let first = second .before in
+    let a = first .before .before .args in
+    settled (a .volume .now) (a .p0) (a .p1) (a .p2) _ _ _ (first .sides-of .ensures) (second .sides-of2 .ensures) (third .sides-of3 .ensures)
+    true false false false true _ (eq-eqb _ _ (some .if1 .left)) (out .if2 .left) (sym (not01 .if3 .left) ∙ not01 .before .segment-in-view .ensures)
+    (sym (not12 .if4 .left) ∙ not12 .before .segment-in-view2 .ensures) (sym (c .if5 .taken) ∙ side20 .segment-in-view3 .ensures) refl
+
+line-meets-requires : tie.Need-line-meets-requires
+line-meets-requires c κs =
+    let a = c .before .before .before .before .before .before .before .before .before .before .before .before .before .args in
+    (subst (λ (n : ℕ). n ≤ rayCount) (sym (c .sight-lines .ensures)) (few (every (hasCorners (a .p0) (a .p1) (a .p2)) (nearAndFar (a .volume .now)))), search needs)
+
+returns-6 : tie.Need-returns-6
+returns-6 c =
+    let not20 = c .before .before in
+    let not12 = not20 .before .before in
+    let not01 = not12 .before .before in
+    let out = not01 .before .before in
+    let some = out .before in
+    let third = some .before in
+    let second = third .before in
+    let first = second .before in
+    let a = first .before .before .args in
+    settled (a .volume .now) (a .p0) (a .p1) (a .p2) _ _ _ (first .sides-of .ensures) (second .sides-of2 .ensures) (third .sides-of3 .ensures)
+    true false false false false _ (eq-eqb _ _ (some .if1 .left)) (out .if2 .left) (sym (not01 .if3 .left) ∙ not01 .before .segment-in-view .ensures)
+    (sym (not12 .if4 .left) ∙ not12 .before .segment-in-view2 .ensures) (sym (not20 .if5 .left) ∙ not20 .before .segment-in-view3 .ensures)
     (c .line-meets .ensures ∙ ap (λ (n : ℕ). someHit (raysFrom (a .volume .now) 0 n) (a .p0) (a .p1) (a .p2)) (c .before .sight-lines .ensures))
 
 pub intersects-triangle-spec : {M : Type 1} → statement M
 intersects-triangle-spec =
     tie.close
-    (tie.spec (λ c κs. search needs) returns returns-2 (λ c κs. search needs) returns-3 (λ c κs. search needs) line-meets-requires returns-4)
+    (tie.spec (λ c κs. search needs) (λ c κs. search needs) (λ c κs. search needs) returns returns-2 (λ c κs. search needs) returns-3 (λ c κs. search needs) returns-4
+    (λ c κs. search needs) returns-5 (λ c κs. search needs) line-meets-requires returns-6)

@@ -13,47 +13,33 @@ cuts x y start end at p q = (sym (λ t. startCut (p t) (q t) start at), sym (λ 
 
 returns : tie.Need-returns
 returns c =
-    let b = c .before in
-    let a = b .before in
-    let g = a .before .before .args in
-    cuts true true (g .self .start) (g .self .end) (crossing (g .plane) (g .a) (g .b))
-    (sym (a .before .on-positive-side .ensures) ∙ a .if1 .taken) (sym (b .on-positive-side2 .ensures) ∙ c .if2 .taken)
+    let a = c .before in
+    let g = a .before .args in
+    cuts true true (g .self .start) (g .self .end) (crossing (g .plane) (g .a) (g .b)) (a .if1 .taken) (c .if2 .taken)
 
 returns-2 : tie.Need-returns-2
 returns-2 c =
     let at = c .before in
-    let e = at .before in
-    let b = e .before in
+    let b = at .before in
     let a = b .before in
-    let g = a .before .before .args in
-    let k =
-    cuts true false (g .self .start) (g .self .end) (crossing (g .plane) (g .a) (g .b))
-    (sym (a .before .on-positive-side .ensures) ∙ a .if1 .taken) (sym (b .on-positive-side2 .ensures) ∙ e .if2 .left)
-    in
+    let g = a .before .args in
+    let k = cuts true false (g .self .start) (g .self .end) (crossing (g .plane) (g .a) (g .b)) (a .if1 .taken) (b .if2 .left) in
     (k .0, c .min .ensures ∙ ap (λ (x : Float). minOf (g .self .end) x) (at .crossing .ensures) ∙ k .1)
 
 returns-3 : tie.Need-returns-3
 returns-3 c =
     let at = c .before in
-    let e = at .before in
-    let b = e .before in
+    let b = at .before in
     let a = b .before in
-    let g = a .before .before .args in
-    let k =
-    cuts false true (g .self .start) (g .self .end) (crossing (g .plane) (g .a) (g .b))
-    (sym (a .before .on-positive-side .ensures) ∙ a .if1 .left) (sym (b .on-positive-side3 .ensures) ∙ e .if3 .taken)
-    in
+    let g = a .before .args in
+    let k = cuts false true (g .self .start) (g .self .end) (crossing (g .plane) (g .a) (g .b)) (a .if1 .left) (b .if3 .taken) in
     (c .max .ensures ∙ ap (λ (x : Float). maxOf (g .self .start) x) (at .crossing2 .ensures) ∙ k .0, k .1)
 
 returns-4 : tie.Need-returns-4
 returns-4 c =
-    let b = c .before in
-    let a = b .before in
-    let g = a .before .before .args in
-    cuts false false (g .self .start) (g .self .end) (crossing (g .plane) (g .a) (g .b))
-    (sym (a .before .on-positive-side .ensures) ∙ a .if1 .left) (sym (b .on-positive-side3 .ensures) ∙ c .if3 .left)
+    let a = c .before in
+    let g = a .before .args in
+    cuts false false (g .self .start) (g .self .end) (crossing (g .plane) (g .a) (g .b)) (a .if1 .left) (c .if3 .left)
 
 pub cut-spec : {M : Type 1} → statement M
-cut-spec =
-    tie.close
-    (tie.spec (λ c κs. tt) (λ c κs. tt) returns (λ c κs. tt) (λ c κs. tt) returns-2 (λ c κs. tt) (λ c κs. tt) (λ c κs. tt) returns-3 returns-4)
+cut-spec = tie.close (tie.spec returns (λ c κs. tt) (λ c κs. tt) returns-2 (λ c κs. tt) (λ c κs. tt) returns-3 returns-4)

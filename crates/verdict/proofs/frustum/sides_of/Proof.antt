@@ -1,0 +1,54 @@
+-- `sides_of` meets its contract: the bits are those of the planes passed. Assumes nothing.
+use mathlib.Core.Path.{_≡_, refl, ap, _∙_}
+use mathlib.Core.Bool.{false}
+use Prim.Native.Nat.{ℕ, _≤_}
+use native.Mathlib.Omega.{arith}
+use borrow.Author.Needs.{needs}
+use Rattle.verdict.specs.Volume.{planeCount, planesFrom}
+use Rattle.verdict.specs.Passes.{maskOf, sidesOf}
+use Rattle.verdict.proofs.PlanesLeft.{planesLeft}
+use Rattle.verdict.proofs.Passes.{room, sides-next}
+use Rattle.verdict.proofs.frustum.sides_of.Statement.{statement}
+use Rattle.verdict.proofs.frustum.sides_of.Tie as tie
+
+abbrev Inv-loop : tie.InvT-loop
+Inv-loop volume p sides₀ i₀ sides i = (i ≤ planeCount) × (sides ≡ sidesOf (planesLeft volume i) p)
+
+abbrev μ-loop : tie.MeasureT-loop
+μ-loop volume p sides₀ i₀ sides i = i
+
+loop-holds : tie.Need-loop-holds Inv-loop μ-loop
+unfolding maskOf planesFrom
+loop-holds c = (omega arith, refl)
+
+mul-sides : tie.Need-mul-sides Inv-loop μ-loop
+mul-sides c =
+    let l = c .before .loop in
+    let a = c .before .before .before .args in
+    omega (arith, room (a .volume .now) (l .i) (a .p) (l .sides) false (omega arith) (l .inv .1))
+
+add-sides : tie.Need-add-sides Inv-loop μ-loop
+add-sides c =
+    let at-loop = c .before .before .before in
+    let l = at-loop .loop in
+    let a = at-loop .before .before .args in
+    omega (arith, room (a .volume .now) (l .i) (a .p) (l .sides) (c .on-positive-side .result) (omega arith) (l .inv .1))
+
+loop-again : tie.Need-loop-again Inv-loop μ-loop
+loop-again c =
+    let at = c .before in
+    let l = at .before .before .loop in
+    (omega arith, sides-next _ _ (l .i) _ _ _ _ (omega arith) (omega arith) (at .plane-at .ensures) (c .on-positive-side .ensures) (l .inv .1))
+
+returns : tie.Need-returns Inv-loop μ-loop
+returns c =
+    let l = c .before .loop in
+    let a = c .before .before .before .args in
+    let e : l .i ≡ 0 = omega arith in
+    l .inv .1 ∙ ap (λ (i : ℕ). sidesOf (planesLeft (a .volume .now) i) (a .p)) e
+
+pub sides-of-spec : {M : Type 1} → statement M
+sides-of-spec =
+    tie.close
+    (tie.spec Inv-loop μ-loop loop-holds (λ c. search needs) mul-sides (λ c κs. (omega arith, search needs)) (λ c κs. tt) (λ c. tt) add-sides (λ c. search needs)
+    loop-again returns)
