@@ -28,5 +28,4 @@ pub mod Cuts
 pub mod PlanesLeft
 pub mod Masks
 pub mod Passes
-pub mod Choices
 pub mod Marked

@@ -6,7 +6,7 @@ use Prim.Native.Nat.{ℕ, suc, _+_, _-_, _*_, _/_, _%_, _^_, _<_}
 use native.Mathlib.Nat.{pow-suc}
 use native.Mathlib.Omega.{arith}
 use borrow.Author.Tests.{eqb-true, eqb-false, eq-eqb, ne-eqb}
-use lib.Bits.{bitOr, or-block}
+use lib.Bits.{bitAnd, bitOr, and-block, or-block}
 use lib.Dec.{eqb}
 use lib.ListN.{length}
 use lib.Pow.{pow-pos}
@@ -14,7 +14,7 @@ use Rattle.verdict.specs.declared.plane.Plane.{Plane}
 use Rattle.verdict.specs.Frustum.{every}
 use Rattle.verdict.specs.Passes.{bit, maskOf}
 
-bit-small : (b : Bool) → bit b < 2
+pub bit-small : (b : Bool) → bit b < 2
 bit-small true = omega arith
 bit-small false = omega arith
 
@@ -51,7 +51,17 @@ module _ (test : Plane → Bool) where
       ap (λ (z : Bool). test p && z) (ones ps) ∙ more-ones (maskOf test ps) (2 ^ length ps) (test p) (pow-pos (length ps))
       ∙ ap (λ (n : ℕ). eqb (maskOf test ps * 2 + bit (test p)) (n - 1)) (sym (pow-suc 2 (length ps)))
 
--- ---- two tests
+-- ---- two tests at once
+
+module _ (f g : Plane → Bool) (op : ℕ → ℕ → ℕ) (of : Bool → Bool → Bool)
+    (block : (k a b r s : ℕ) → r < 2 ^ k → s < 2 ^ k → op (a * 2 ^ k + r) (b * 2 ^ k + s) ≡ op a b * 2 ^ k + op r s)
+    (bits : (x y : Bool) → op (bit x) (bit y) ≡ bit (of x y)) (none : op 0 0 ≡ 0) where
+  joined : (ps : List Plane) → op (maskOf f ps) (maskOf g ps) ≡ maskOf (λ p. of (f p) (g p)) ps
+  unfolding maskOf
+  joined [] = none
+  joined (p ∷ ps) =
+      block 1 (maskOf f ps) (maskOf g ps) (bit (f p)) (bit (g p)) (bit-small (f p)) (bit-small (g p))
+      ∙ ap₂ (λ (m b : ℕ). m * 2 + b) (joined ps) (bits (f p) (g p))
 
 either-bit : (x y : Bool) → bitOr (bit x) (bit y) ≡ bit (x || y)
 either-bit true true = refl
@@ -59,9 +69,14 @@ either-bit true false = refl
 either-bit false true = refl
 either-bit false false = refl
 
+both-bits : (x y : Bool) → bitAnd (bit x) (bit y) ≡ bit (x && y)
+both-bits true true = refl
+both-bits true false = refl
+both-bits false true = refl
+both-bits false false = refl
+
 pub either : (f g : Plane → Bool) (ps : List Plane) → bitOr (maskOf f ps) (maskOf g ps) ≡ maskOf (λ p. f p || g p) ps
-unfolding maskOf
-either f g [] = refl
-either f g (p ∷ ps) =
-    or-block 1 (maskOf f ps) (maskOf g ps) (bit (f p)) (bit (g p)) (bit-small (f p)) (bit-small (g p))
-    ∙ ap₂ (λ (m b : ℕ). m * 2 + b) (either f g ps) (either-bit (f p) (g p))
+either f g = joined f g bitOr _||_ or-block either-bit refl
+
+pub both : (f g : Plane → Bool) (ps : List Plane) → bitAnd (maskOf f ps) (maskOf g ps) ≡ maskOf (λ p. f p && g p) ps
+both f g = joined f g bitAnd _&&_ and-block both-bits refl

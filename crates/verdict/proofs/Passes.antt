@@ -5,7 +5,7 @@ use mathlib.Core.List.{List, _∷_}
 use Prim.Native.Nat.{ℕ, _+_, _-_, _*_, _/_, _%_, _^_, _<_, _≤_}
 use native.Mathlib.Omega.{arith}
 use mir.Val.{boolByte}
-use lib.Bits.{bitOr}
+use lib.Bits.{bitAnd, bitOr}
 use lib.Dec.{eqb}
 use lib.Ieee.{Float, lt}
 use lib.ListN.{length}
@@ -13,11 +13,11 @@ use lib.Pow.{pow-mono}
 use Rattle.matrix.specs.declared.vec.Vec3d.{Vec3d}
 use Rattle.verdict.specs.declared.plane.Plane.{Plane}
 use Rattle.verdict.specs.Plane.{onPositiveSide}
-use Rattle.verdict.specs.Volume.{planeCount, planeAt, planesOf}
-use Rattle.verdict.specs.Frustum.{every, pointOf, hasEnd, hasCorner, crossing, startCut, endCut, spanLeft}
-use Rattle.verdict.specs.Passes.{bit, maskOf, sidesOf, allPlanes}
+use Rattle.verdict.specs.Volume.{planeCount, nearPlane, planeAt, planesFrom, planesOf, nearAndFar}
+use Rattle.verdict.specs.Frustum.{every, pointOf, hasEnd, hasCorner, hasCorners, crossing, startCut, endCut, spanLeft}
+use Rattle.verdict.specs.Passes.{bit, maskOf, sidesOf, allPlanes, nearAndFarIn}
 use Rattle.verdict.proofs.Cuts.{tested}
-use Rattle.verdict.proofs.Masks.{lowest, others, below, ones, either}
+use Rattle.verdict.proofs.Masks.{bit-small, lowest, others, below, ones, either, both}
 use Rattle.verdict.proofs.PlanesLeft.{planesLeft, count, next, none}
 
 -- ---- the bits of a point, plane by plane
@@ -51,6 +51,13 @@ module _ (s : List Float) where
   full : (test : Plane → Bool) (m : ℕ) → m ≡ maskOf test (planesOf s) → every test (planesOf s) ≡ eqb m allPlanes
   full test m e = ones test (planesOf s) ∙ (λ t. eqb (sym e t) (2 ^ count s 0 planeCount t - 1))
 
+  near-and-far : (test : Plane → Bool) (m : ℕ) → m ≡ maskOf test (planesOf s) → every test (nearAndFar s) ≡ nearAndFarIn m
+  unfolding maskOf planesFrom
+  near-and-far test m e =
+      let b : (i : ℕ) → bit (test (planeAt s i)) < 2 = λ i. bit-small (test (planeAt s i)) in
+      let k : maskOf test (nearAndFar s) ≡ m / 2 ^ nearPlane % 4 = omega (arith, e, b 0, b 1, b 2, b 3, b 4, b 5) in
+      ones test (nearAndFar s) ∙ ap (λ (n : ℕ). eqb n 3) k
+
   inside : (x : Vec3d) (m : ℕ) → m ≡ sidesOf (planesOf s) x → pointOf (planesOf s) x ≡ eqb m allPlanes
   unfolding pointOf
   inside x m e = full (λ p. onPositiveSide p x) m e
@@ -72,6 +79,12 @@ module _ (s : List Float) where
     pub corner-inside : (c : Vec3d) (o : ℕ) → o ≡ sidesOf (planesOf s) c
         → (pointOf (planesOf s) a || pointOf (planesOf s) b || pointOf (planesOf s) c) ≡ (eqb m allPlanes || eqb n allPlanes || eqb o allPlanes)
     corner-inside c o w = λ t. end-inside t || inside c o w t
+
+    pub between : (c : Vec3d) (o : ℕ) → o ≡ sidesOf (planesOf s) c → every (hasCorners a b c) (nearAndFar s) ≡ nearAndFarIn (bitAnd (bitAnd m n) o)
+    between c o w =
+        near-and-far (hasCorners a b c) (bitAnd (bitAnd m n) o)
+        ((λ t. bitAnd (bitAnd (u t) (v t)) (w t)) ∙ ap (λ (k : ℕ). bitAnd k (sidesOf (planesOf s) c)) (both (λ p. onPositiveSide p a) (λ p. onPositiveSide p b) (planesOf s))
+        ∙ both (λ p. onPositiveSide p a && onPositiveSide p b) (λ p. onPositiveSide p c) (planesOf s))
 
 -- ---- what is left of a segment
 

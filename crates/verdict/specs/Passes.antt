@@ -1,8 +1,9 @@
 -- What one pass over the planes of a view, or over the corners of a box, has found so far. They serve the contracts of private
 -- functions; no verdict's definition speaks of them. Definitions only.
-use Prim.Native.Nat.{ℕ, _+_, _-_, _*_, _^_}
+use Prim.Native.Nat.{ℕ, _+_, _-_, _*_, _/_, _%_, _^_}
 use mathlib.Core.Bool.{Bool, true, false, _&&_, _||_}
 use mathlib.Core.List.{List, [], _∷_}
+use lib.Dec.{eqb}
 use lib.Ieee.{lt, neg}
 use Rattle.matrix.specs.Constants.{one}
 use Rattle.matrix.specs.Transform.{homogeneous}
@@ -14,7 +15,7 @@ use Rattle.matrix.specs.declared.matrix.Mat4d.{Mat4d}
 use Rattle.verdict.specs.declared.plane.Plane.{Plane}
 use Rattle.verdict.specs.declared.view_volume.Sides.{Sides}
 use Rattle.verdict.specs.Plane.{onPositiveSide}
-use Rattle.verdict.specs.Volume.{planeCount}
+use Rattle.verdict.specs.Volume.{planeCount, nearPlane}
 use Rattle.verdict.specs.Frustum.{someBelow}
 
 -- ---- the planes that pass a test, as the bits of a number
@@ -35,6 +36,10 @@ sidesOf ps x = maskOf (λ p. onPositiveSide p x) ps
 -- all of a view's
 abbrev pub allPlanes : ℕ
 allPlanes = 2 ^ planeCount - 1
+
+-- the near and the far plane are among them
+abbrev pub nearAndFarIn : ℕ → Bool
+nearAndFarIn m = eqb (m / 2 ^ nearPlane % 4) 3
 
 -- ---- the bounds of clip space that some corner of a box is inside of
 

@@ -1,40 +1,28 @@
 // Whether a triangle is in view.
 ghost use mathlib.Core.Path.{_≡_};
+ghost use mathlib.Core.Bool.{cond};
 ghost use Prim.Native.Nat.{_≤_};
 ghost use lib.ListN.{length};
 ghost use Rattle.verdict.specs.Ray.{triangleHit};
 ghost use Rattle.verdict.specs.Volume.{volumeLength, rayCount, raysFrom};
-ghost use Rattle.verdict.specs.Frustum.{hasCorners, isHit, someHit, sightLines, triangleOf};
+ghost use Rattle.verdict.specs.Passes.{nearAndFarIn};
+ghost use Rattle.verdict.specs.Frustum.{isHit, someHit, triangleOf};
 use crate::frustum::segment_in_view;
 use crate::frustum::sides_of;
-use crate::plane::Plane;
 use crate::ray::Ray;
 use crate::ray::TriangleHit;
 use crate::volume::ALL_PLANES;
-use crate::volume::FAR_PLANE;
 use crate::volume::NEAR_PLANE;
 use crate::volume::RAY_COUNT;
-use crate::volume::plane_at;
 use crate::volume::ray_at;
 use matrix::vec::Vec3d;
 
-// Whether a plane has all of three points on its positive side.
-fn has_corners(plane: Plane, p0: Vec3d, p1: Vec3d, p2: Vec3d) -> bool
-    ensures { λ r. ⌜ r ≡ hasCorners p0 p1 p2 plane ⌝ }
+// How many lines of sight are tried, by the planes that have all three points on their positive side: one where the near and the far plane do.
+fn sight_lines(sides: u32) -> u32
+    ensures { λ r. ⌜ (r ≡ cond (nearAndFarIn sides) 1 rayCount) × (r ≤ rayCount) ⌝ }
 {
-    plane.on_positive_side(p0) & plane.on_positive_side(p1) & plane.on_positive_side(p2)
-}
-
-// How many lines of sight are tried: one where all three points are between the near and the far plane.
-fn sight_lines(volume: &[f64], p0: Vec3d, p1: Vec3d, p2: Vec3d) -> u32
-    requires { ⌜ length (now volume) ≡ volumeLength ⌝ }
-    ensures { λ r. ⌜ r ≡ sightLines (now (volume .entry)) p0 p1 p2 ⌝ }
-{
-    if has_corners(plane_at(volume, NEAR_PLANE), p0, p1, p2) {
-        if has_corners(plane_at(volume, FAR_PLANE), p0, p1, p2) {
-            return 1;
-        }
-        return RAY_COUNT;
+    if (sides >> NEAR_PLANE) % 4 == 3 {
+        return 1;
     }
     RAY_COUNT
 }
@@ -92,5 +80,5 @@ pub(crate) fn intersects_triangle(volume: &[f64], p0: Vec3d, p1: Vec3d, p2: Vec3
     if segment_in_view(volume, p2, sides2, p0, sides0) {
         return true;
     }
-    line_meets(volume, sight_lines(volume, p0, p1, p2), p0, p1, p2)
+    line_meets(volume, sight_lines(sides0 & sides1 & sides2), p0, p1, p2)
 }

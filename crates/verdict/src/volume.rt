@@ -12,9 +12,8 @@ pub(crate) const PLANE_COUNT: u32 = 6;
 // A bit for each plane.
 pub(crate) const ALL_PLANES: u32 = (1 << PLANE_COUNT) - 1;
 
+// The near plane, which the far one follows.
 pub(crate) const NEAR_PLANE: u32 = 4;
-
-pub(crate) const FAR_PLANE: u32 = NEAR_PLANE + 1;
 
 pub(crate) const RAY_COUNT: u32 = 4;
 

@@ -1,25 +1,20 @@
 -- `intersects_triangle` meets its contract: its tests are those of the definition, in their order. Assumes nothing.
-use mathlib.Core.Path.{_≡_, refl, sym, ap, _∙_, subst}
+use mathlib.Core.Path.{_≡_, refl, sym, ap, _∙_}
 use mathlib.Core.Bool.{Bool, true, false, cond, _&&_, _||_}
 use mathlib.Core.List.{List}
-use Prim.Native.Nat.{ℕ, _≤_}
-use native.Mathlib.Omega.{arith}
+use Prim.Native.Nat.{ℕ}
 use borrow.Author.Needs.{needs}
 use borrow.Author.Tests.{eq-eqb, ne-eqb}
-use lib.Bits.{bitOr}
+use lib.Bits.{bitAnd, bitOr}
 use lib.Dec.{eqb}
 use lib.Ieee.{Float}
 use Rattle.matrix.specs.declared.vec.Vec3d.{Vec3d}
-use Rattle.verdict.specs.Volume.{rayCount, planesOf, nearAndFar, raysFrom}
-use Rattle.verdict.specs.Frustum.{every, segmentOf, hasCorners, someHit, sightLines, triangleOf}
-use Rattle.verdict.specs.Passes.{sidesOf, allPlanes}
-use Rattle.verdict.proofs.Passes.{some-corner, corner-inside}
+use Rattle.verdict.specs.Volume.{rayCount, planesOf, raysFrom}
+use Rattle.verdict.specs.Frustum.{segmentOf, someHit, sightLines, triangleOf}
+use Rattle.verdict.specs.Passes.{sidesOf, allPlanes, nearAndFarIn}
+use Rattle.verdict.proofs.Passes.{some-corner, corner-inside, between}
 use Rattle.verdict.proofs.triangle.intersects_triangle.Statement.{statement}
 use Rattle.verdict.proofs.triangle.intersects_triangle.Tie as tie
-
-few : (b : Bool) → cond b 1 rayCount ≤ rayCount
-few true = omega arith
-few false = omega arith
 
 module _ (s : List Float) (a b c : Vec3d) (m n o : ℕ) (u : m ≡ sidesOf (planesOf s) a) (v : n ≡ sidesOf (planesOf s) b) (w : o ≡ sidesOf (planesOf s) c) where
   settled : (x y z₀ z₁ z₂ h : Bool) → eqb (bitOr (bitOr m n) o) allPlanes ≡ x → (eqb m allPlanes || eqb n allPlanes || eqb o allPlanes) ≡ y
@@ -30,6 +25,9 @@ module _ (s : List Float) (a b c : Vec3d) (m n o : ℕ) (u : m ≡ sidesOf (plan
       let i = sym (some-corner s a b m n u v c o w ∙ p) in
       let j = sym (corner-inside s a b m n u v c o w ∙ q) in
       λ t. i t && (j t || e t || f t || g t || l t)
+
+  tried : (k : ℕ) → k ≡ cond (nearAndFarIn (bitAnd (bitAnd m n) o)) 1 rayCount → someHit (raysFrom s 0 k) a b c ≡ someHit (raysFrom s 0 (sightLines s a b c)) a b c
+  tried k e = ap (λ (j : ℕ). someHit (raysFrom s 0 j) a b c) (e ∙ sym (ap (λ (z : Bool). cond z 1 rayCount) (between s a b m n u v c o w)))
 
 returns : tie.Need-returns
 returns c =
@@ -91,11 +89,6 @@ returns-5 c =
     true false false false true _ (eq-eqb _ _ (some .if1 .left)) (out .if2 .left) (sym (not01 .if3 .left) ∙ not01 .before .segment-in-view .ensures)
     (sym (not12 .if4 .left) ∙ not12 .before .segment-in-view2 .ensures) (sym (c .if5 .taken) ∙ side20 .segment-in-view3 .ensures) refl
 
-line-meets-requires : tie.Need-line-meets-requires
-line-meets-requires c κs =
-    let a = c .before .before .before .before .before .before .before .before .before .before .before .before .before .args in
-    (subst (λ (n : ℕ). n ≤ rayCount) (sym (c .sight-lines .ensures)) (few (every (hasCorners (a .p0) (a .p1) (a .p2)) (nearAndFar (a .volume .now)))), search needs)
-
 returns-6 : tie.Need-returns-6
 returns-6 c =
     let not20 = c .before .before in
@@ -110,10 +103,10 @@ returns-6 c =
     settled (a .volume .now) (a .p0) (a .p1) (a .p2) _ _ _ (first .sides-of .ensures) (second .sides-of2 .ensures) (third .sides-of3 .ensures)
     true false false false false _ (eq-eqb _ _ (some .if1 .left)) (out .if2 .left) (sym (not01 .if3 .left) ∙ not01 .before .segment-in-view .ensures)
     (sym (not12 .if4 .left) ∙ not12 .before .segment-in-view2 .ensures) (sym (not20 .if5 .left) ∙ not20 .before .segment-in-view3 .ensures)
-    (c .line-meets .ensures ∙ ap (λ (n : ℕ). someHit (raysFrom (a .volume .now) 0 n) (a .p0) (a .p1) (a .p2)) (c .before .sight-lines .ensures))
+    (c .line-meets .ensures ∙ tried (a .volume .now) (a .p0) (a .p1) (a .p2) _ _ _ (first .sides-of .ensures) (second .sides-of2 .ensures) (third .sides-of3 .ensures) _ (c .before .sight-lines .ensures .0))
 
 pub intersects-triangle-spec : {M : Type 1} → statement M
 intersects-triangle-spec =
     tie.close
     (tie.spec (λ c κs. search needs) (λ c κs. search needs) (λ c κs. search needs) returns returns-2 (λ c κs. search needs) returns-3 (λ c κs. search needs) returns-4
-    (λ c κs. search needs) returns-5 (λ c κs. search needs) line-meets-requires returns-6)
+    (λ c κs. search needs) returns-5 (λ c κs. search needs) (λ c κs. (c .sight-lines .ensures .1, search needs)) returns-6)
