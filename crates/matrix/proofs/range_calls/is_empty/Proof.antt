@@ -1,6 +1,6 @@
 -- `range_calls::is_empty` meets its contract: the length by its test, the verdict by those along the axes. Assumes nothing.
 use mathlib.Core.Path.{_≡_, refl}
-use mathlib.Core.Bool.{Bool, false}
+use mathlib.Core.Bool.{Bool, true, false}
 use mathlib.Core.List.{List}
 use denote.Ref.{now}
 use lib.Ieee.{Float, lt}
@@ -8,7 +8,7 @@ use Rattle.number.specs.Answer.{has, answering}
 use Rattle.number.proofs.Calls.{no-answer, answered}
 use Rattle.matrix.specs.Range.{rangeOf, emptyAlong, isEmpty}
 use Rattle.matrix.specs.Calls.{isEmptyCall}
-use Rattle.matrix.proofs.Emptiness.{by-x, by-y, by-z}
+use Rattle.matrix.proofs.Emptiness.{by-axes}
 use Rattle.matrix.proofs.range_calls.is_empty.Statement.{statement}
 use Rattle.matrix.proofs.range_calls.is_empty.Tie as tie
 
@@ -26,7 +26,7 @@ returns c = no-answer _ 6 _ _ is _ (c .if1 .taken)
 returns-2 : tie.Need-returns-2
 returns-2 c =
     let x = c .before in
-    answered _ 6 _ _ is _ _ (x .before .before .if1 .left) (by-x _ (read _ _ _ _ _ (x .before .at .ensures) (x .at2 .ensures) (c .if2 .taken)))
+    answered _ 6 _ _ is _ _ (x .before .before .if1 .left) (by-axes _ true _ _ (read _ _ _ _ _ (x .before .at .ensures) (x .at2 .ensures) (c .if2 .taken)) refl refl)
 
 not-x : (c : tie.Else2) → emptyAlong (rangeOf (now (c .before .before .before .before .before .args .range))) 0 ≡ false
 not-x c = read _ _ _ _ _ (c .before .before .at .ensures) (c .before .at2 .ensures) (c .if2 .left)
@@ -36,7 +36,7 @@ returns-3 c =
     let y = c .before in
     let x = y .before .before in
     answered _ 6 _ _ is _ _ (x .before .before .before .if1 .left)
-    (by-y _ (not-x x) (read _ _ _ _ _ (y .before .at3 .ensures) (y .at4 .ensures) (c .if3 .taken)))
+    (by-axes _ false true _ (not-x x) (read _ _ _ _ _ (y .before .at3 .ensures) (y .at4 .ensures) (c .if3 .taken)) refl)
 
 not-y : (c : tie.Else3) → emptyAlong (rangeOf (now (c .before .before .before .before .before .before .before .before .args .range))) 1 ≡ false
 not-y c = read _ _ _ _ _ (c .before .before .at3 .ensures) (c .before .at4 .ensures) (c .if3 .left)
@@ -47,7 +47,7 @@ returns-4 c =
     let y = z .before .before in
     let x = y .before .before .before in
     answered _ 6 _ _ is _ _ (x .before .before .before .if1 .left)
-    (by-z _ _ (not-x x) (not-y y) (read _ _ _ _ _ (z .before .at5 .ensures) (z .at6 .ensures) (c .if4 .taken)))
+    (by-axes _ false false _ (not-x x) (not-y y) (read _ _ _ _ _ (z .before .at5 .ensures) (z .at6 .ensures) (c .if4 .taken)))
 
 returns-5 : tie.Need-returns-5
 returns-5 c =
@@ -55,7 +55,7 @@ returns-5 c =
     let y = z .before .before in
     let x = y .before .before .before in
     answered _ 6 _ _ is _ _ (x .before .before .before .if1 .left)
-    (by-z _ _ (not-x x) (not-y y) (read _ _ _ _ _ (z .before .at5 .ensures) (z .at6 .ensures) (c .if4 .left)))
+    (by-axes _ false false _ (not-x x) (not-y y) (read _ _ _ _ _ (z .before .at5 .ensures) (z .at6 .ensures) (c .if4 .left)))
 
 pub is-empty-spec : {M : Type 1} → statement M
 is-empty-spec =
