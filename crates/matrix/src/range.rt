@@ -18,7 +18,8 @@ pub struct Range3d {
     pub max: Vec3d,
 }
 
-// The squared distance of a number from the span between two others. Where both tests hold, the second counts; no return waits on either, so neither is a branch.
+// The squared distance of a number from the span between two others. Where both tests hold, the second counts; no return waits on
+// either, so neither is a branch.
 fn along(p: f64, min: f64, max: f64) -> f64
     ensures { λ r. ⌜ r ≡ along p min max ⌝ }
 {
@@ -234,7 +235,8 @@ impl Range3d {
         slice::store(&all, out);
     }
 
-    // The numbers of the eight corners of the range in a slice, into a slice of 24. The last four go first, before x and y of the least corner are read: so the compiler stores all of them in pairs.
+    // The numbers of the eight corners of the range in a slice, into a slice of 24. The last four go first, before x and y of the least
+    // corner are read: so the compiler stores all of them in pairs.
     pub fn store_corners(s: &[f64], out: &mut [f64])
         ensures { λ _. ⌜ now (out .exit) ≡ stored (corners (rangeOf (now (s .entry))) 8) (now (out .entry)) ⌝ }
     {
