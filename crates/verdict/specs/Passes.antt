@@ -5,7 +5,7 @@ use mathlib.Core.Bool.{Bool, true, false, _&&_, _||_}
 use mathlib.Core.List.{List, [], _∷_}
 use lib.Dec.{eqb}
 use lib.Ieee.{lt, neg}
-use Rattle.matrix.specs.Constants.{one}
+use Rattle.matrix.specs.Constants.{positiveZero, one}
 use Rattle.matrix.specs.Transform.{homogeneous}
 use Rattle.matrix.specs.Range.{corner}
 use Rattle.matrix.specs.declared.vec.Vec3d.{Vec3d}
@@ -16,7 +16,7 @@ use Rattle.verdict.specs.declared.plane.Plane.{Plane}
 use Rattle.verdict.specs.declared.view_volume.Sides.{Sides}
 use Rattle.verdict.specs.Plane.{onPositiveSide}
 use Rattle.verdict.specs.Volume.{planeCount, nearPlane}
-use Rattle.verdict.specs.Frustum.{someBelow}
+use Rattle.verdict.specs.Frustum.{every, hasEnd, spanLeft, someBelow}
 
 -- ---- the planes that pass a test, as the bits of a number
 
@@ -40,6 +40,10 @@ allPlanes = 2 ^ planeCount - 1
 -- the near and the far plane are among them
 abbrev pub nearAndFarIn : ℕ → Bool
 nearAndFarIn m = eqb (m / 2 ^ nearPlane % 4) 3
+
+-- some of a triangle's side is left, of which both ends are outside
+abbrev pub sideLeft : List Plane → Vec3d → Vec3d → Bool
+sideLeft ps a b = every (hasEnd a b) ps && spanLeft ps a b positiveZero one
 
 -- ---- the bounds of clip space that some corner of a box is inside of
 

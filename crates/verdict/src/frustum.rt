@@ -81,7 +81,7 @@ impl Span {
 }
 
 // Whether the planes leave some of a segment, by where it crosses those that have one end alone on their positive side.
-fn span_left(volume: &[f64], a: Vec3d, a_sides: u32, b: Vec3d, b_sides: u32) -> bool
+pub(crate) fn span_left(volume: &[f64], a: Vec3d, a_sides: u32, b: Vec3d, b_sides: u32) -> bool
     requires { ⌜ (length (now volume) ≡ volumeLength) × («a_sides» ≡ sidesOf (planesOf (now volume)) a) × («b_sides» ≡ sidesOf (planesOf (now volume)) b) ⌝ }
     ensures { λ r. ⌜ r ≡ spanLeft (planesOf (now (volume .entry))) a b positiveZero one ⌝ }
 {
@@ -104,17 +104,13 @@ fn span_left(volume: &[f64], a: Vec3d, a_sides: u32, b: Vec3d, b_sides: u32) -> 
     true
 }
 
-// Whether some of a segment is on the positive side of every plane, by the planes that have its ends there.
-pub(crate) fn segment_in_view(
-    volume: &[f64],
-    a: Vec3d,
-    a_sides: u32,
-    b: Vec3d,
-    b_sides: u32,
-) -> bool
-    requires { ⌜ (length (now volume) ≡ volumeLength) × («a_sides» ≡ sidesOf (planesOf (now volume)) a) × («b_sides» ≡ sidesOf (planesOf (now volume)) b) ⌝ }
+// Whether some of a segment is on the positive side of every plane.
+pub(crate) fn intersects_segment(volume: &[f64], a: Vec3d, b: Vec3d) -> bool
+    requires { ⌜ length (now volume) ≡ volumeLength ⌝ }
     ensures { λ r. ⌜ r ≡ segmentOf (planesOf (now (volume .entry))) a b ⌝ }
 {
+    let a_sides = sides_of(volume, a);
+    let b_sides = sides_of(volume, b);
     if a_sides | b_sides != ALL_PLANES {
         return false;
     }
@@ -122,13 +118,6 @@ pub(crate) fn segment_in_view(
         return true;
     }
     span_left(volume, a, a_sides, b, b_sides)
-}
-
-pub(crate) fn intersects_segment(volume: &[f64], a: Vec3d, b: Vec3d) -> bool
-    requires { ⌜ length (now volume) ≡ volumeLength ⌝ }
-    ensures { λ r. ⌜ r ≡ segmentOf (planesOf (now (volume .entry))) a b ⌝ }
-{
-    segment_in_view(volume, a, sides_of(volume, a), b, sides_of(volume, b))
 }
 
 // The matrix that carries planes into the space of a box; a degenerate box is taken as if its matrix were the identity.

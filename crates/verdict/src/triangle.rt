@@ -4,11 +4,11 @@ ghost use mathlib.Core.Bool.{cond};
 ghost use Prim.Native.Nat.{_≤_};
 ghost use lib.ListN.{length};
 ghost use Rattle.verdict.specs.Ray.{triangleHit};
-ghost use Rattle.verdict.specs.Volume.{volumeLength, rayCount, raysFrom};
-ghost use Rattle.verdict.specs.Passes.{nearAndFarIn};
+ghost use Rattle.verdict.specs.Volume.{volumeLength, rayCount, planesOf, raysFrom};
+ghost use Rattle.verdict.specs.Passes.{sidesOf, sideLeft, nearAndFarIn};
 ghost use Rattle.verdict.specs.Frustum.{isHit, someHit, triangleOf};
-use crate::frustum::segment_in_view;
 use crate::frustum::sides_of;
+use crate::frustum::span_left;
 use crate::ray::Ray;
 use crate::ray::TriangleHit;
 use crate::volume::ALL_PLANES;
@@ -17,7 +17,19 @@ use crate::volume::RAY_COUNT;
 use crate::volume::ray_at;
 use matrix::vec::Vec3d;
 
-// How many lines of sight are tried, by the planes that have all three points on their positive side: one where the near and the far plane do.
+// Whether some of a side is in view, of which both ends are outside.
+fn side_in_view(volume: &[f64], a: Vec3d, a_sides: u32, b: Vec3d, b_sides: u32) -> bool
+    requires { ⌜ (length (now volume) ≡ volumeLength) × («a_sides» ≡ sidesOf (planesOf (now volume)) a) × («b_sides» ≡ sidesOf (planesOf (now volume)) b) ⌝ }
+    ensures { λ r. ⌜ r ≡ sideLeft (planesOf (now (volume .entry))) a b ⌝ }
+{
+    if a_sides | b_sides != ALL_PLANES {
+        return false;
+    }
+    span_left(volume, a, a_sides, b, b_sides)
+}
+
+// How many lines of sight are tried, by the planes that have all three points on their positive side: one where the near and the
+// far plane do.
 fn sight_lines(sides: u32) -> u32
     ensures { λ r. ⌜ (r ≡ cond (nearAndFarIn sides) 1 rayCount) × (r ≤ rayCount) ⌝ }
 {
@@ -71,13 +83,13 @@ pub(crate) fn intersects_triangle(volume: &[f64], p0: Vec3d, p1: Vec3d, p2: Vec3
     if (sides0 == ALL_PLANES) | (sides1 == ALL_PLANES) | (sides2 == ALL_PLANES) {
         return true;
     }
-    if segment_in_view(volume, p0, sides0, p1, sides1) {
+    if side_in_view(volume, p0, sides0, p1, sides1) {
         return true;
     }
-    if segment_in_view(volume, p1, sides1, p2, sides2) {
+    if side_in_view(volume, p1, sides1, p2, sides2) {
         return true;
     }
-    if segment_in_view(volume, p2, sides2, p0, sides0) {
+    if side_in_view(volume, p2, sides2, p0, sides0) {
         return true;
     }
     line_meets(volume, sight_lines(sides0 & sides1 & sides2), p0, p1, p2)

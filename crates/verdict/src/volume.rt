@@ -1,4 +1,4 @@
-// The record of a view: its planes, that face into it, then four lines of sight along its corners. What knows where its numbers stand is here.
+// The record of a view: its planes, that face into it, then lines of sight along its corners. What knows its layout is here.
 ghost use mathlib.Core.Path.{_≡_};
 ghost use Prim.Native.Nat.{_<_};
 ghost use lib.ListN.{length};

@@ -8,23 +8,37 @@ use borrow.Author.Tests.{eq-eqb, ne-eqb}
 use lib.Bits.{bitAnd, bitOr}
 use lib.Dec.{eqb}
 use lib.Ieee.{Float}
+use Rattle.matrix.specs.Constants.{positiveZero, one}
 use Rattle.matrix.specs.declared.vec.Vec3d.{Vec3d}
 use Rattle.verdict.specs.Volume.{rayCount, planesOf, raysFrom}
-use Rattle.verdict.specs.Frustum.{segmentOf, someHit, sightLines, triangleOf}
-use Rattle.verdict.specs.Passes.{sidesOf, allPlanes, nearAndFarIn}
+use Rattle.verdict.specs.Frustum.{every, pointOf, hasEnd, spanLeft, segmentOf, hasCorner, someHit, sightLines, triangleOf}
+use Rattle.verdict.specs.Passes.{sidesOf, allPlanes, sideLeft, nearAndFarIn}
 use Rattle.verdict.proofs.Passes.{some-corner, corner-inside, between}
 use Rattle.verdict.proofs.triangle.intersects_triangle.Statement.{statement}
 use Rattle.verdict.proofs.triangle.intersects_triangle.Tie as tie
 
+-- where no corner is inside, a side is in view if something of it is left
+outside : (a b c e f g u v w h : Bool)
+    → (a || b || c || e && u || f && v || g && w || h) ≡ (a || b || c || e && (a || b || u) || f && (b || c || v) || g && (c || a || w) || h)
+outside true b c e f g u v w h = refl
+outside false true c e f g u v w h = refl
+outside false false true e f g u v w h = refl
+outside false false false e f g u v w h = refl
+
 module _ (s : List Float) (a b c : Vec3d) (m n o : ℕ) (u : m ≡ sidesOf (planesOf s) a) (v : n ≡ sidesOf (planesOf s) b) (w : o ≡ sidesOf (planesOf s) c) where
   settled : (x y z₀ z₁ z₂ h : Bool) → eqb (bitOr (bitOr m n) o) allPlanes ≡ x → (eqb m allPlanes || eqb n allPlanes || eqb o allPlanes) ≡ y
-      → z₀ ≡ segmentOf (planesOf s) a b → z₁ ≡ segmentOf (planesOf s) b c → z₂ ≡ segmentOf (planesOf s) c a → h ≡ someHit (raysFrom s 0 (sightLines s a b c)) a b c
+      → z₀ ≡ sideLeft (planesOf s) a b → z₁ ≡ sideLeft (planesOf s) b c → z₂ ≡ sideLeft (planesOf s) c a → h ≡ someHit (raysFrom s 0 (sightLines s a b c)) a b c
       → (x && (y || z₀ || z₁ || z₂ || h)) ≡ triangleOf s a b c
-  unfolding triangleOf
+  unfolding triangleOf segmentOf
   settled x y z₀ z₁ z₂ h p q e f g l =
       let i = sym (some-corner s a b m n u v c o w ∙ p) in
       let j = sym (corner-inside s a b m n u v c o w ∙ q) in
-      λ t. i t && (j t || e t || f t || g t || l t)
+      let left : Vec3d → Vec3d → Bool = λ x y. spanLeft (planesOf s) x y positiveZero one in
+      (λ t. i t && (j t || e t || f t || g t || l t))
+      ∙ ap (λ (z : Bool). every (hasCorner a b c) (planesOf s) && z)
+      (outside (pointOf (planesOf s) a) (pointOf (planesOf s) b) (pointOf (planesOf s) c)
+      (every (hasEnd a b) (planesOf s)) (every (hasEnd b c) (planesOf s)) (every (hasEnd c a) (planesOf s)) (left a b) (left b c) (left c a)
+      (someHit (raysFrom s 0 (sightLines s a b c)) a b c))
 
   tried : (k : ℕ) → k ≡ cond (nearAndFarIn (bitAnd (bitAnd m n) o)) 1 rayCount → someHit (raysFrom s 0 k) a b c ≡ someHit (raysFrom s 0 (sightLines s a b c)) a b c
   tried k e = ap (λ (j : ℕ). someHit (raysFrom s 0 j) a b c) (e ∙ sym (ap (λ (z : Bool). cond z 1 rayCount) (between s a b m n u v c o w)))
@@ -58,7 +72,7 @@ returns-3 c =
     let first = second .before in
     let a = first .before .before .args in
     settled (a .volume .now) (a .p0) (a .p1) (a .p2) _ _ _ (first .sides-of .ensures) (second .sides-of2 .ensures) (third .sides-of3 .ensures)
-    true false true _ _ _ (eq-eqb _ _ (some .if1 .left)) (out .if2 .left) (sym (c .if3 .taken) ∙ side01 .segment-in-view .ensures) refl refl refl
+    true false true _ _ _ (eq-eqb _ _ (some .if1 .left)) (out .if2 .left) (sym (c .if3 .taken) ∙ side01 .side-in-view .ensures) refl refl refl
 
 returns-4 : tie.Need-returns-4
 returns-4 c =
@@ -71,8 +85,8 @@ returns-4 c =
     let first = second .before in
     let a = first .before .before .args in
     settled (a .volume .now) (a .p0) (a .p1) (a .p2) _ _ _ (first .sides-of .ensures) (second .sides-of2 .ensures) (third .sides-of3 .ensures)
-    true false false true _ _ (eq-eqb _ _ (some .if1 .left)) (out .if2 .left) (sym (not01 .if3 .left) ∙ not01 .before .segment-in-view .ensures)
-    (sym (c .if4 .taken) ∙ side12 .segment-in-view2 .ensures) refl refl
+    true false false true _ _ (eq-eqb _ _ (some .if1 .left)) (out .if2 .left) (sym (not01 .if3 .left) ∙ not01 .before .side-in-view .ensures)
+    (sym (c .if4 .taken) ∙ side12 .side-in-view2 .ensures) refl refl
 
 returns-5 : tie.Need-returns-5
 returns-5 c =
@@ -86,8 +100,8 @@ returns-5 c =
     let first = second .before in
     let a = first .before .before .args in
     settled (a .volume .now) (a .p0) (a .p1) (a .p2) _ _ _ (first .sides-of .ensures) (second .sides-of2 .ensures) (third .sides-of3 .ensures)
-    true false false false true _ (eq-eqb _ _ (some .if1 .left)) (out .if2 .left) (sym (not01 .if3 .left) ∙ not01 .before .segment-in-view .ensures)
-    (sym (not12 .if4 .left) ∙ not12 .before .segment-in-view2 .ensures) (sym (c .if5 .taken) ∙ side20 .segment-in-view3 .ensures) refl
+    true false false false true _ (eq-eqb _ _ (some .if1 .left)) (out .if2 .left) (sym (not01 .if3 .left) ∙ not01 .before .side-in-view .ensures)
+    (sym (not12 .if4 .left) ∙ not12 .before .side-in-view2 .ensures) (sym (c .if5 .taken) ∙ side20 .side-in-view3 .ensures) refl
 
 returns-6 : tie.Need-returns-6
 returns-6 c =
@@ -101,8 +115,8 @@ returns-6 c =
     let first = second .before in
     let a = first .before .before .args in
     settled (a .volume .now) (a .p0) (a .p1) (a .p2) _ _ _ (first .sides-of .ensures) (second .sides-of2 .ensures) (third .sides-of3 .ensures)
-    true false false false false _ (eq-eqb _ _ (some .if1 .left)) (out .if2 .left) (sym (not01 .if3 .left) ∙ not01 .before .segment-in-view .ensures)
-    (sym (not12 .if4 .left) ∙ not12 .before .segment-in-view2 .ensures) (sym (not20 .if5 .left) ∙ not20 .before .segment-in-view3 .ensures)
+    true false false false false _ (eq-eqb _ _ (some .if1 .left)) (out .if2 .left) (sym (not01 .if3 .left) ∙ not01 .before .side-in-view .ensures)
+    (sym (not12 .if4 .left) ∙ not12 .before .side-in-view2 .ensures) (sym (not20 .if5 .left) ∙ not20 .before .side-in-view3 .ensures)
     (c .line-meets .ensures ∙ tried (a .volume .now) (a .p0) (a .p1) (a .p2) _ _ _ (first .sides-of .ensures) (second .sides-of2 .ensures) (third .sides-of3 .ensures) _ (c .before .sight-lines .ensures .0))
 
 pub intersects-triangle-spec : {M : Type 1} → statement M
