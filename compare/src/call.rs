@@ -1,203 +1,29 @@
 //! Calls that lend slices.
 
-use crate::bench::Timing;
-use crate::inputs::{Rng, mixed};
+use crate::inputs::{Draw, Rng, mixed};
 use crate::judge;
-use crate::op::{Op, Outcome, Trial};
-use crate::record::{self, Words};
-use crate::scalar::shown;
+use crate::lent::{INPUTS, Input, Ins, Lent, Shape, Side};
+use crate::op::{Op, Timing};
+use crate::trial::{Outcome, Trial};
+use crate::words::{self, Words};
 use std::hint::black_box;
-use std::{ptr, slice};
 
-/// What is lent for an input or a result.
-#[derive(Clone, Copy, PartialEq)]
-pub enum Shape {
-    /// A slice for a record of this many numbers.
-    Slice(usize),
-    /// A lone number, which has no length to be wrong.
-    Number,
-    /// A yes or no, in the first half of a word.
-    Verdict,
+/// What is exported, with both sides of it. Written by `call!`.
+pub struct Exported {
+    /// Its C name.
+    pub name: &'static str,
+    /// Its code in the recorded answers.
+    pub code: u64,
+    pub takes: &'static [Shape],
+    pub gives: Shape,
+    pub ours: Option<Box<dyn Side>>,
+    pub rust: Box<dyn Side>,
 }
-
-impl Shape {
-    pub fn len(self) -> usize {
-        match self {
-            Shape::Slice(len) => len,
-            Shape::Number | Shape::Verdict => 1,
-        }
-    }
-}
-
-/// A slice, or the place of a lone number, as it is lent.
-#[derive(Clone, Copy)]
-pub struct Lent {
-    pub at: *mut f64,
-    pub len: usize,
-}
-
-impl Lent {
-    pub const NONE: Lent = Lent { at: ptr::dangling_mut(), len: 0 };
-
-    pub fn to_read(numbers: &[f64]) -> Lent {
-        Lent { at: numbers.as_ptr().cast_mut(), len: numbers.len() }
-    }
-
-    pub fn to_write(numbers: &mut [f64]) -> Lent {
-        Lent { at: numbers.as_mut_ptr(), len: numbers.len() }
-    }
-
-    pub unsafe fn slice<'a>(self) -> &'a [f64] {
-        unsafe { slice::from_raw_parts(self.at, self.len) }
-    }
-}
-
-/// How many inputs a call has at most.
-const INPUTS: usize = 4;
-
-/// What is lent for the inputs. What follows a call's own is not looked at.
-pub type Ins = [Lent; INPUTS];
-
-/// What a reference gives, and where it goes.
-pub trait Answer {
-    type Lent: ?Sized;
-    const SHAPE: Shape;
-
-    unsafe fn lent<'a>(lent: Lent) -> &'a mut Self::Lent;
-    fn fits(lent: &Self::Lent) -> bool;
-    fn store(self, to: &mut Self::Lent);
-}
-
-impl<const N: usize> Answer for [f64; N] {
-    type Lent = [f64];
-    const SHAPE: Shape = Shape::Slice(N);
-
-    unsafe fn lent<'a>(lent: Lent) -> &'a mut [f64] {
-        unsafe { slice::from_raw_parts_mut(lent.at, lent.len) }
-    }
-
-    fn fits(lent: &[f64]) -> bool {
-        lent.len() == N
-    }
-
-    fn store(self, to: &mut [f64]) {
-        to.copy_from_slice(&self);
-    }
-}
-
-impl Answer for f64 {
-    type Lent = f64;
-    const SHAPE: Shape = Shape::Number;
-
-    unsafe fn lent<'a>(lent: Lent) -> &'a mut f64 {
-        unsafe { &mut *lent.at }
-    }
-
-    fn fits(_: &f64) -> bool {
-        true
-    }
-
-    fn store(self, to: &mut f64) {
-        *to = self;
-    }
-}
-
-impl Answer for bool {
-    type Lent = u32;
-    const SHAPE: Shape = Shape::Verdict;
-
-    unsafe fn lent<'a>(lent: Lent) -> &'a mut u32 {
-        unsafe { &mut *lent.at.cast() }
-    }
-
-    fn fits(_: &u32) -> bool {
-        true
-    }
-
-    fn store(self, to: &mut u32) {
-        *to = self.into();
-    }
-}
-
-/// One of the two sides of a call.
-pub trait Side: Send + Sync {
-    fn call(&self, ins: &Ins, out: Lent) -> u32;
-
-    /// Calls it on each of `all`, to be timed.
-    fn pass(&self, all: &[Ins], out: Lent);
-}
-
-/// A side that is reached through a pointer, and how it is called.
-pub struct Pointer<F, C>(pub F, pub C);
-
-impl<F, C> Side for Pointer<F, C>
-where
-    F: Copy + Send + Sync,
-    C: Fn(F, &Ins, Lent) -> u32 + Send + Sync,
-{
-    fn call(&self, ins: &Ins, out: Lent) -> u32 {
-        (self.1)(self.0, ins, out)
-    }
-
-    fn pass(&self, all: &[Ins], out: Lent) {
-        let f = black_box(self.0);
-        for ins in all {
-            black_box((self.1)(f, ins, black_box(out)));
-        }
-    }
-}
-
-/// The inputs of a call: a tuple of records and lone numbers.
-pub trait Input: Copy + Send + Sync + 'static {
-    /// The numbers of each; none for what follows.
-    fn records(&self) -> [&[f64]; INPUTS];
-}
-
-trait Record: Copy + Send + Sync + 'static {
-    fn numbers(&self) -> &[f64];
-}
-
-impl<const N: usize> Record for [f64; N] {
-    fn numbers(&self) -> &[f64] {
-        self
-    }
-}
-
-impl Record for f64 {
-    fn numbers(&self) -> &[f64] {
-        slice::from_ref(self)
-    }
-}
-
-macro_rules! input {
-    ($($record:ident $field:tt),*) => {
-        impl<$($record: Record),*> Input for ($($record,)*) {
-            fn records(&self) -> [&[f64]; INPUTS] {
-                let mut records: [&[f64]; INPUTS] = [&[]; INPUTS];
-                $(records[$field] = self.$field.numbers();)*
-                records
-            }
-        }
-    };
-}
-
-input!(A 0);
-input!(A 0, B 1);
-input!(A 0, B 1, C 2);
-input!(A 0, B 1, C 2, D 3);
-
-/// Draws an input, by its number and a generator.
-pub type Draw<I> = fn(u64, &mut Rng) -> I;
 
 /// A call that reads lent slices, writes one or a lone result, and answers a
 /// refusal or 0.
 pub struct Call<I> {
-    name: &'static str,
-    code: u64,
-    takes: &'static [Shape],
-    gives: Shape,
-    ours: Option<Box<dyn Side>>,
-    rust: Box<dyn Side>,
+    of: Exported,
     agrees: fn(f64, f64) -> bool,
     fixed: Vec<I>,
     drawn: Draw<I>,
@@ -207,20 +33,11 @@ pub struct Call<I> {
 }
 
 impl<I: Input> Call<I> {
-    /// Written by `call!`.
-    pub fn new(
-        name: &'static str,
-        code: u64,
-        takes: &'static [Shape],
-        gives: Shape,
-        ours: Option<Box<dyn Side>>,
-        rust: Box<dyn Side>,
-    ) -> Self {
-        let agrees = if gives == Shape::Verdict { judge::equal } else { judge::matches };
+    /// A call with no inputs.
+    pub fn new(of: Exported) -> Self {
+        let agrees = if of.gives == Shape::Verdict { judge::equal } else { judge::matches };
         let drawn = |_, _: &mut Rng| unreachable!("no inputs are given");
-        let name = name.trim_start_matches("gf_");
-        let (fixed, sets) = (vec![], vec![]);
-        Call { name, code, takes, gives, ours, rust, agrees, fixed, drawn, sets, timed_against: None, recorded: None }
+        Call { of, agrees, fixed: vec![], drawn, sets: vec![], timed_against: None, recorded: None }
     }
 
     /// Inputs that are always tried, and recorded.
@@ -243,7 +60,7 @@ impl<I: Input> Call<I> {
 
     /// Its judge is not what it is timed against; the Rust of `other` is.
     pub fn timed_against(mut self, other: Self) -> Self {
-        self.timed_against = Some(other.rust);
+        self.timed_against = Some(other.of.rust);
         self
     }
 
@@ -274,16 +91,16 @@ impl<I: Input> Call<I> {
     /// only one slice is one short or one long, or any slice has any length.
     fn lengths(&self, case: u64, rng: &mut Rng) -> [usize; INPUTS + 1] {
         let mut right = [0; INPUTS + 1];
-        for (len, shape) in right.iter_mut().zip(self.takes) {
+        for (len, shape) in right.iter_mut().zip(self.of.takes) {
             *len = shape.len();
         }
-        right[INPUTS] = self.gives.len();
+        right[INPUTS] = self.of.gives.len();
         if case < self.fixed.len() as u64 || rng.below(8) != 0 {
             return right;
         }
         let mut len = right;
-        let last = INPUTS + usize::from(matches!(self.gives, Shape::Slice(_)));
-        let is_slice = |i: usize| i == INPUTS || matches!(self.takes.get(i), Some(Shape::Slice(_)));
+        let last = INPUTS + usize::from(matches!(self.of.gives, Shape::Slice(_)));
+        let is_slice = |i: usize| i == INPUTS || matches!(self.of.takes.get(i), Some(Shape::Slice(_)));
         let slices = || (0..last).filter(|&i| is_slice(i));
         if rng.below(2) == 0 {
             let one = slices().nth(rng.below(slices().count() as u64) as usize).expect("a slice is lent");
@@ -298,7 +115,7 @@ impl<I: Input> Call<I> {
     fn lay(&self, input: I, len: [usize; INPUTS + 1]) -> Desk {
         let mut desk = Desk { words: BESIDE, at: [0; INPUTS + 1], len };
         let mut at = GUARD;
-        for (i, record) in input.records().into_iter().enumerate().take(self.takes.len()) {
+        for (i, record) in input.records().into_iter().enumerate().take(self.of.takes.len()) {
             desk.at[i] = at;
             for (word, number) in desk.words[at..][..len[i]].iter_mut().zip(record) {
                 *word = number.to_bits();
@@ -312,8 +129,8 @@ impl<I: Input> Call<I> {
     /// The kind of outcome, where this is left of a call.
     fn outcome(&self, status: u32, desk: &Desk) -> usize {
         match status {
-            0 if self.gives == Shape::Verdict && desk.verdict() => Outcome::YES,
-            0 if self.gives == Shape::Verdict => Outcome::NO,
+            0 if self.of.gives == Shape::Verdict && desk.verdict() => Outcome::YES,
+            0 if self.of.gives == Shape::Verdict => Outcome::NO,
             _ => status as usize,
         }
     }
@@ -323,7 +140,7 @@ impl<I: Input> Call<I> {
     fn make(&self, case: u64, mut rng: Rng) -> (Desk, [(u32, Desk); 2]) {
         let input = self.input(case, &mut rng);
         let before = self.lay(input, self.lengths(case, &mut rng));
-        let made = [Some(&self.rust), self.ours.as_ref()].map(|side| {
+        let made = [Some(&self.of.rust), self.of.ours.as_ref()].map(|side| {
             let mut desk = before.clone();
             let status = desk.put_to(side.expect("exported").as_ref());
             (status, desk)
@@ -388,15 +205,15 @@ impl Desk {
 
 impl<I: Input> Trial for Call<I> {
     fn name(&self) -> &'static str {
-        self.name
+        self.of.name.trim_start_matches("gf_")
     }
 
     fn note(&self) -> Option<&'static str> {
-        self.ours.is_none().then_some("not exported yet")
+        self.of.ours.is_none().then_some("not exported yet")
     }
 
     fn cases(&self, count: u64) -> u64 {
-        if self.ours.is_none() { 0 } else { count.max(self.fixed.len() as u64) }
+        if self.of.ours.is_none() { 0 } else { count.max(self.fixed.len() as u64) }
     }
 
     fn agree(&self, case: u64, rng: Rng) -> Option<usize> {
@@ -409,15 +226,15 @@ impl<I: Input> Trial for Call<I> {
     fn describe(&self, case: u64, rng: Rng) -> String {
         let (before, [(judge, expected), (ours, desk)]) = self.make(case, rng);
         let list = |words: &[u64]| {
-            let words: Vec<String> = words.iter().map(|&bits| shown(bits)).collect();
+            let words: Vec<String> = words.iter().map(|&bits| words::shown(bits)).collect();
             format!("[{}]", words.join(", "))
         };
-        let result = |desk: &Desk| match self.gives {
+        let result = |desk: &Desk| match self.of.gives {
             Shape::Verdict => format!("{:#018x}", desk.numbers(INPUTS)[0]),
             _ => list(desk.numbers(INPUTS)),
         };
-        let ins: Vec<String> = (0..self.takes.len()).map(|i| list(before.numbers(i))).collect();
-        let mut text = format!("{}({}; out of {})", self.name, ins.join(", "), before.len[INPUTS]);
+        let ins: Vec<String> = (0..self.of.takes.len()).map(|i| list(before.numbers(i))).collect();
+        let mut text = format!("{}({}; out of {})", self.name(), ins.join(", "), before.len[INPUTS]);
         text += &format!("\n      judge {judge} {}", result(&expected));
         text += &format!("\n      ours  {ours} {}", result(&desk));
         let out = before.at[INPUTS]..before.at[INPUTS] + before.len[INPUTS];
@@ -430,17 +247,23 @@ impl<I: Input> Trial for Call<I> {
 
 impl<I: Input> Op for Call<I> {
     fn code(&self) -> u64 {
-        self.code
+        self.of.code
     }
 
-    fn timings(&self) -> Vec<Timing<'_>> {
-        let Some(ours) = &self.ours else {
+    fn timings<'a>(&'a self) -> Vec<Timing<'a>> {
+        let Some(ours) = &self.of.ours else {
             return vec![];
         };
-        let rust = self.timed_against.as_ref().unwrap_or(&self.rust);
+        let rust = self.timed_against.as_ref().unwrap_or(&self.of.rust);
         let timing = |&(set, draw): &(&'static str, Draw<I>)| {
-            let inputs: Vec<I> = (0..Timing::CALLS as u64).map(|i| draw(i, &mut Rng::at(1, i))).collect();
-            Timing::of_call(self.name, set, inputs, self.gives.len(), ours.as_ref(), rust.as_ref())
+            let inputs = Timing::inputs(draw).iter();
+            let lent: &'static [Ins] =
+                inputs.map(|input| input.records().map(Lent::to_read)).collect::<Vec<_>>().leak();
+            let pass = |side: &'a dyn Side| {
+                let mut out = vec![0.0; self.of.gives.len()];
+                move || side.pass(black_box(lent), Lent::to_write(&mut out))
+            };
+            Timing { set, ours: Box::new(pass(ours.as_ref())), rust: Box::new(pass(rust.as_ref())) }
         };
         self.sets.iter().map(timing).collect()
     }
@@ -451,28 +274,28 @@ impl<I: Input> Op for Call<I> {
         }
         let answered = |input: I| {
             let mut desk = self.lay(input, self.lengths(0, &mut Rng::at(0, 0)));
-            let status = desk.put_to(self.rust.as_ref());
+            let status = desk.put_to(self.of.rust.as_ref());
             (status, desk)
         };
         let recorded = |input: I| {
             let (status, desk) = answered(input);
-            let given: Vec<u64> = (0..self.takes.len()).flat_map(|i| desk.numbers(i)).copied().collect();
-            let result: Vec<u64> = match (status, self.gives) {
+            let given: Vec<u64> = (0..self.of.takes.len()).flat_map(|i| desk.numbers(i)).copied().collect();
+            let result: Vec<u64> = match (status, self.of.gives) {
                 (0, Shape::Verdict) => vec![desk.verdict().into()],
-                (0, _) => desk.numbers(INPUTS).iter().map(|&bits| record::plain(bits)).collect(),
+                (0, _) => desk.numbers(INPUTS).iter().map(|&bits| words::plain(bits)).collect(),
                 _ => vec![],
             };
-            record::call(self.code, &given, status, &result)
+            words::call(self.of.code, &given, status, &result)
         };
         let drawn = |case| (self.drawn)(case, &mut Rng::at(1, case));
         let kind = |&input: &I| {
             let (status, desk) = answered(input);
             self.outcome(status, &desk)
         };
-        record::sample(&self.fixed, drawn, kind).into_iter().map(recorded).collect()
+        words::sample(&self.fixed, drawn, kind).into_iter().map(recorded).collect()
     }
 
     fn sides(&self) -> Option<[Option<&dyn Side>; 2]> {
-        Some([Some(self.rust.as_ref()), self.ours.as_deref()])
+        Some([Some(self.of.rust.as_ref()), self.of.ours.as_deref()])
     }
 }

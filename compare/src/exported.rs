@@ -35,7 +35,8 @@ macro_rules! call {
     };
     (@ $code:literal $name:ident [$($in:ident: $n:literal),* $(; $number:ident)?] $answer:ty $body:block
         $out:ident ($($c_type:ty),*) ($($c_argument:expr),*)) => {{
-        use $crate::call::{Answer, Call, Ins, Lent, Pointer, Shape, Side};
+        use $crate::call::{Call, Exported};
+        use $crate::lent::{Answer, Ins, Lent, Pointer, Shape, Side};
 
         type Ours = unsafe extern "C" fn($($in: *const f64, _: usize,)* $($number: f64,)? $($c_type),*) -> u32;
         type Rust = fn($($in: &[f64],)* $($number: f64,)? &mut <$answer as Answer>::Lent) -> u32;
@@ -70,14 +71,14 @@ macro_rules! call {
             let [$($in,)* $($number,)? ..] = *ins;
             f($($in.slice(),)* $(*$number.at,)? <$answer as Answer>::lent(out))
         }));
-        Call::<($([f64; $n],)* $(call!(@f64 $number),)?)>::new(
-            stringify!($name),
-            $code,
-            &[$(Shape::Slice($n),)* $(call!(@lone $number),)?],
-            <$answer as Answer>::SHAPE,
+        Call::<($([f64; $n],)* $(call!(@f64 $number),)?)>::new(Exported {
+            name: stringify!($name),
+            code: $code,
+            takes: &[$(Shape::Slice($n),)* $(call!(@lone $number),)?],
+            gives: <$answer as Answer>::SHAPE,
             ours,
             rust,
-        )
+        })
     }};
     (@f64 $number:ident) => { f64 };
     (@lone $number:ident) => { Shape::Number };

@@ -1,10 +1,11 @@
 //! The farm grid by a second judge, exact whole numbers: verdicts, turns and
 //! combining. The Rust is judged as the archive is.
 
-use crate::call::{Lent, Side};
 use crate::exact;
 use crate::inputs::{self, FarmBox, Rng, Turn, Whole, WholePlane, farm_volume, floats, on_grid};
-use crate::op::{Op, Outcome, Trial};
+use crate::lent::{Lent, Side};
+use crate::op::Op;
+use crate::trial::{Outcome, Trial};
 use std::array;
 use std::fmt::Debug;
 

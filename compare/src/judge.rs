@@ -97,7 +97,6 @@ pub fn grid_by_round(p: &[f64; 3]) -> Result<[f64; 3], u32> {
 #[cfg(test)]
 mod tests {
     use super::*;
-    use crate::inputs::{self, Rng};
 
     #[test]
     fn the_papers_grid_points() {
@@ -115,14 +114,5 @@ mod tests {
         assert_eq!(centimetres(f64::NEG_INFINITY), refused);
         assert_eq!(centimetres(f64::MAX), refused);
         assert_eq!(centimetres(f64::from_bits(1)), passes(0.0));
-    }
-
-    #[test]
-    fn the_exact_grid_is_that_of_round() {
-        for case in 0..2_000_000 {
-            let x = f64::from_bits(inputs::metres(&mut Rng::at(1, case)));
-            let bits = |whole: [f64; 3]| whole.map(f64::to_bits);
-            assert_eq!(grid(&[x; 3]).map(bits), grid_by_round(&[x; 3]).map(bits), "{x:e}");
-        }
     }
 }

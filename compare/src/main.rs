@@ -13,17 +13,21 @@ mod exported;
 mod grid;
 mod inputs;
 mod judge;
+mod lent;
 mod op;
 mod ops;
 mod record;
 mod run;
 mod rust;
 mod scalar;
+mod trial;
+mod words;
 
-use op::{Op, Trial};
+use op::Op;
 use record::File;
 use std::process::ExitCode;
 use std::{env, fs, io};
+use trial::Trial;
 
 /// Cases for each function where no count is given.
 const COUNT: u64 = 2_000_000;

@@ -1,6 +1,7 @@
 //! The comparison of all operations, on all cores.
 
-use crate::op::{Op, Outcome, Tally, Trial};
+use crate::op::Op;
+use crate::trial::{Outcome, Tally, Trial};
 use std::sync::Mutex;
 use std::sync::atomic::{AtomicU64, Ordering};
 use std::thread;

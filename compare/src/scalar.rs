@@ -1,17 +1,15 @@
 //! Functions of one or two numbers.
 
-use crate::bench::Timing;
-use crate::call::Side;
-use crate::inputs::Rng;
-use crate::op::{Op, Outcome, Trial};
-use crate::record::{self, Words};
+use crate::inputs::{Draw, Rng};
+use crate::lent::Side;
+use crate::op::{Op, Timing};
+use crate::trial::{Outcome, Trial};
+use crate::words::{self, Words, shown, shown_narrow};
+use std::hint::black_box;
 use std::num::FpCategory;
 
 /// The bits of one or two numbers; the second is 0 where there is one.
 pub type Numbers = [u64; 2];
-
-/// Draws an input, by its number and a generator.
-pub type Draw = fn(u64, &mut Rng) -> Numbers;
 
 /// A function of numbers, by its signature.
 #[derive(Clone, Copy)]
@@ -38,7 +36,7 @@ impl Function {
 
     /// What the answers on all inputs add up to, by exclusive or. Which
     /// function it is is settled before the first call.
-    pub fn fold(self, inputs: &[Numbers]) -> u64 {
+    fn fold(self, inputs: &[Numbers]) -> u64 {
         fn all(inputs: &[Numbers], call: impl Fn(Numbers) -> u64) -> u64 {
             inputs.iter().fold(0, |all, &input| all ^ call(input))
         }
@@ -71,7 +69,7 @@ impl Function {
         match self {
             Function::Narrow(_) if f32::from_bits(bits as u32).is_nan() => 0x7fc0_0000,
             Function::Narrow(_) => bits,
-            _ => record::plain(bits),
+            _ => words::plain(bits),
         }
     }
 
@@ -93,14 +91,6 @@ impl Function {
     }
 }
 
-pub fn shown(bits: u64) -> String {
-    format!("{bits:#018x} ({:e})", f64::from_bits(bits))
-}
-
-fn shown_narrow(bits: u64) -> String {
-    format!("{bits:#010x} ({:e})", f32::from_bits(bits as u32))
-}
-
 /// A function of numbers and its judge. They agree where the bits are equal
 /// or both are NaN: IEEE 754 and paper 01 fix the signs of these zeros.
 pub struct Scalar {
@@ -118,14 +108,22 @@ pub struct Scalar {
     /// Inputs that are always tried after these.
     pub systematic: Vec<Numbers>,
     /// Further inputs.
-    pub drawn: Draw,
+    pub drawn: Draw<Numbers>,
     /// How many there are, where the drawn inputs are all there are.
     pub every: Option<u64>,
     /// Input sets for timing.
-    pub sets: Vec<(&'static str, Draw)>,
+    pub sets: Vec<(&'static str, Draw<Numbers>)>,
 }
 
 impl Scalar {
+    /// A function of which the Rust's answers are expected, with no inputs.
+    pub fn new(name: &'static str, code: u64, ours: Option<Function>, rust: Function) -> Self {
+        let (notable, more, systematic, sets) = (vec![], vec![], vec![], vec![]);
+        let drawn = |_, _: &mut Rng| unreachable!("no inputs are given");
+        let expected = |_, rust| rust;
+        Scalar { name, code, ours, rust, expected, notable, more, systematic, drawn, every: None, sets }
+    }
+
     #[inline]
     fn input(&self, case: u64, mut rng: Rng) -> Numbers {
         let (notable, systematic) = (self.notable.len() as u64, self.systematic.len() as u64);
@@ -198,17 +196,22 @@ impl Op for Scalar {
         let Some(ours) = self.ours else {
             return vec![];
         };
-        let timing = |&(set, draw): &(&'static str, Draw)| {
-            let inputs = (0..Timing::CALLS as u64).map(|i| draw(i, &mut Rng::at(1, i))).collect();
-            Timing::of_numbers(self.name, set, inputs, ours, self.rust)
+        let timing = |&(set, draw): &(&'static str, Draw<Numbers>)| {
+            let inputs = Timing::inputs(draw);
+            let pass = |f: Function| {
+                move || {
+                    black_box(black_box(f).fold(black_box(inputs)));
+                }
+            };
+            Timing { set, ours: Box::new(pass(ours)), rust: Box::new(pass(self.rust)) }
         };
         self.sets.iter().map(timing).collect()
     }
 
     fn vectors(&self) -> Vec<Words> {
         let drawn = (0..).map(|case| (self.drawn)(case, &mut Rng::at(1, case)));
-        let inputs = self.notable.iter().copied().chain(drawn).take(record::NUMBERS).chain(self.more.iter().copied());
-        inputs.map(|input| record::number(self.code, input, self.rust.plain(self.judge(input)), 0)).collect()
+        let inputs = self.notable.iter().copied().chain(drawn).take(words::NUMBERS).chain(self.more.iter().copied());
+        inputs.map(|input| words::number(self.code, input, self.rust.plain(self.judge(input)), 0)).collect()
     }
 
     fn sides(&self) -> Option<[Option<&dyn Side>; 2]> {

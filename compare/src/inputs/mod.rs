@@ -62,6 +62,9 @@ impl Rng {
     }
 }
 
+/// Draws an input, by its number and a generator.
+pub type Draw<I> = fn(u64, &mut Rng) -> I;
+
 pub const fn mixed(x: u64) -> u64 {
     let x = (x ^ x >> 30).wrapping_mul(0xbf58_476d_1ce4_e5b9);
     let x = (x ^ x >> 27).wrapping_mul(0x94d0_49bb_1331_11eb);

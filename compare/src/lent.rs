@@ -1,0 +1,181 @@
+//! What a call is lent, and its two sides.
+
+use std::hint::black_box;
+use std::{ptr, slice};
+
+/// What is lent for an input or a result.
+#[derive(Clone, Copy, PartialEq)]
+pub enum Shape {
+    /// A slice for a record of this many numbers.
+    Slice(usize),
+    /// A lone number, which has no length to be wrong.
+    Number,
+    /// A yes or no, in the first half of a word.
+    Verdict,
+}
+
+impl Shape {
+    pub fn len(self) -> usize {
+        match self {
+            Shape::Slice(len) => len,
+            Shape::Number | Shape::Verdict => 1,
+        }
+    }
+}
+
+/// A slice, or the place of a lone number, as it is lent.
+#[derive(Clone, Copy)]
+pub struct Lent {
+    pub at: *mut f64,
+    pub len: usize,
+}
+
+impl Lent {
+    pub const NONE: Lent = Lent { at: ptr::dangling_mut(), len: 0 };
+
+    pub fn to_read(numbers: &[f64]) -> Lent {
+        Lent { at: numbers.as_ptr().cast_mut(), len: numbers.len() }
+    }
+
+    pub fn to_write(numbers: &mut [f64]) -> Lent {
+        Lent { at: numbers.as_mut_ptr(), len: numbers.len() }
+    }
+
+    pub unsafe fn slice<'a>(self) -> &'a [f64] {
+        unsafe { slice::from_raw_parts(self.at, self.len) }
+    }
+}
+
+/// How many inputs a call has at most.
+pub const INPUTS: usize = 4;
+
+/// What is lent for the inputs. What follows a call's own is not looked at.
+pub type Ins = [Lent; INPUTS];
+
+/// What a reference gives, and where it goes.
+pub trait Answer {
+    type Lent: ?Sized;
+    const SHAPE: Shape;
+
+    unsafe fn lent<'a>(lent: Lent) -> &'a mut Self::Lent;
+    fn fits(lent: &Self::Lent) -> bool;
+    fn store(self, to: &mut Self::Lent);
+}
+
+impl<const N: usize> Answer for [f64; N] {
+    type Lent = [f64];
+    const SHAPE: Shape = Shape::Slice(N);
+
+    unsafe fn lent<'a>(lent: Lent) -> &'a mut [f64] {
+        unsafe { slice::from_raw_parts_mut(lent.at, lent.len) }
+    }
+
+    fn fits(lent: &[f64]) -> bool {
+        lent.len() == N
+    }
+
+    fn store(self, to: &mut [f64]) {
+        to.copy_from_slice(&self);
+    }
+}
+
+impl Answer for f64 {
+    type Lent = f64;
+    const SHAPE: Shape = Shape::Number;
+
+    unsafe fn lent<'a>(lent: Lent) -> &'a mut f64 {
+        unsafe { &mut *lent.at }
+    }
+
+    fn fits(_: &f64) -> bool {
+        true
+    }
+
+    fn store(self, to: &mut f64) {
+        *to = self;
+    }
+}
+
+impl Answer for bool {
+    type Lent = u32;
+    const SHAPE: Shape = Shape::Verdict;
+
+    unsafe fn lent<'a>(lent: Lent) -> &'a mut u32 {
+        unsafe { &mut *lent.at.cast() }
+    }
+
+    fn fits(_: &u32) -> bool {
+        true
+    }
+
+    fn store(self, to: &mut u32) {
+        *to = self.into();
+    }
+}
+
+/// One of the two sides of a call.
+pub trait Side: Send + Sync {
+    fn call(&self, ins: &Ins, out: Lent) -> u32;
+
+    /// Calls it on each of `all`, to be timed.
+    fn pass(&self, all: &[Ins], out: Lent);
+}
+
+/// A side that is reached through a pointer, and how it is called.
+pub struct Pointer<F, C>(pub F, pub C);
+
+impl<F, C> Side for Pointer<F, C>
+where
+    F: Copy + Send + Sync,
+    C: Fn(F, &Ins, Lent) -> u32 + Send + Sync,
+{
+    fn call(&self, ins: &Ins, out: Lent) -> u32 {
+        (self.1)(self.0, ins, out)
+    }
+
+    fn pass(&self, all: &[Ins], out: Lent) {
+        let f = black_box(self.0);
+        for ins in all {
+            black_box((self.1)(f, ins, black_box(out)));
+        }
+    }
+}
+
+/// The inputs of a call: a tuple of records and lone numbers.
+pub trait Input: Copy + Send + Sync + 'static {
+    /// The numbers of each; none for what follows.
+    fn records(&self) -> [&[f64]; INPUTS];
+}
+
+trait Record: Copy + Send + Sync + 'static {
+    fn numbers(&self) -> &[f64];
+}
+
+impl<const N: usize> Record for [f64; N] {
+    fn numbers(&self) -> &[f64] {
+        self
+    }
+}
+
+impl Record for f64 {
+    fn numbers(&self) -> &[f64] {
+        slice::from_ref(self)
+    }
+}
+
+macro_rules! input {
+    ($($record:ident $field:tt),*) => {
+        impl<$($record: Record),*> Input for ($($record,)*) {
+            fn records(&self) -> [&[f64]; INPUTS] {
+                let mut records: [&[f64]; INPUTS] = [&[]; INPUTS];
+                $(records[$field] = self.$field.numbers();)*
+                records
+            }
+        }
+    };
+}
+
+input!(A 0);
+input!(A 0, B 1);
+input!(A 0, B 1, C 2);
+input!(A 0, B 1, C 2, D 3);
