@@ -285,7 +285,7 @@ impl<I: Input> Op for Call<I> {
                 (0, _) => desk.numbers(INPUTS).iter().map(|&bits| words::plain(bits)).collect(),
                 _ => vec![],
             };
-            words::call(self.of.code, &given, status, &result)
+            words::record(&given, status, &result)
         };
         let drawn = |case| (self.drawn)(case, &mut Rng::at(1, case));
         let kind = |&input: &I| {

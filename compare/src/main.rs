@@ -4,7 +4,7 @@
 //!     compare run [COUNT] [FUNCTION..]
 //!     compare grid [COUNT]
 //!     compare bench [FUNCTION..]
-//!     compare record [number|geometry] [FILE]
+//!     compare record [FILE]
 
 mod bench;
 mod call;
@@ -24,7 +24,6 @@ mod trial;
 mod words;
 
 use op::Op;
-use record::File;
 use std::process::ExitCode;
 use std::{env, fs, io};
 use trial::Trial;
@@ -36,14 +35,9 @@ fn main() -> ExitCode {
     let words: Vec<String> = env::args().skip(1).collect();
     let words: Vec<&str> = words.iter().map(String::as_str).collect();
     let done = match words[..] {
-        ["record", ref rest @ ..] => match rest {
-            [] => recorded(File::Number, None),
-            [name, path @ ..] if path.len() < 2 && File::named(name).is_some() => {
-                recorded(File::named(name).expect("just seen"), path.first().copied())
-            }
-            [path] => recorded(File::Number, Some(path)),
-            _ => Err(String::from("record [number|geometry] [FILE]")),
-        },
+        ["record"] => recorded(None),
+        ["record", path] => recorded(Some(path)),
+        ["record", ..] => Err(String::from("record [FILE]")),
         ["bench", ref names @ ..] => chosen(names).map(|ops| {
             bench::bench(&ops);
             true
@@ -102,12 +96,12 @@ fn chosen(names: &[&str]) -> Result<Vec<Box<dyn Op>>, String> {
     Ok(ops)
 }
 
-fn recorded(file: File, path: Option<&str>) -> Result<bool, String> {
+fn recorded(path: Option<&str>) -> Result<bool, String> {
     let to: io::Result<Box<dyn io::Write>> = match path {
         Some(path) => fs::File::create(path).map(|file| Box::new(io::BufWriter::new(file)) as _),
         None => Ok(Box::new(io::stdout().lock())),
     };
-    let written = to.and_then(|mut to| record::write(file, &ops::all(), &mut to));
+    let written = to.and_then(|mut to| record::write(&ops::all(), &mut to));
     let vectors = written.map_err(|error| format!("{}: {error}", path.unwrap_or("standard output")))?;
     eprintln!("{vectors} vectors");
     Ok(true)

@@ -48,6 +48,14 @@ impl Function {
         }
     }
 
+    /// The numbers that it looks at.
+    fn takes(self, input: &Numbers) -> &[u64] {
+        match self {
+            Function::Two(_) => input,
+            _ => &input[..1],
+        }
+    }
+
     fn show_input(self, [x, y]: Numbers) -> String {
         match self {
             Function::Two(_) => format!("{}, {}", shown(x), shown(y)),
@@ -211,7 +219,8 @@ impl Op for Scalar {
     fn vectors(&self) -> Vec<Words> {
         let drawn = (0..).map(|case| (self.drawn)(case, &mut Rng::at(1, case)));
         let inputs = self.notable.iter().copied().chain(drawn).take(words::NUMBERS).chain(self.more.iter().copied());
-        inputs.map(|input| words::number(self.code, input, self.rust.plain(self.judge(input)), 0)).collect()
+        let answer = |input| self.rust.plain(self.judge(input));
+        inputs.map(|input| words::record(self.rust.takes(&input), 0, &[answer(input)])).collect()
     }
 
     fn sides(&self) -> Option<[Option<&dyn Side>; 2]> {

@@ -3,7 +3,7 @@
 
 use std::collections::BTreeMap;
 
-/// The words of one input and what is to be answered.
+/// The words of one input and what is to be answered, after the code.
 pub type Words = Vec<u64>;
 
 pub fn shown(bits: u64) -> String {
@@ -23,14 +23,9 @@ pub fn plain(bits: u64) -> u64 {
 /// How many are recorded of a function of numbers and of the grid.
 pub const NUMBERS: usize = 300;
 
-/// The words of a function of numbers: always five.
-pub fn number(code: u64, input: [u64; 2], output: u64, status: u64) -> Words {
-    vec![code, input[0], input[1], output, status]
-}
-
-/// The words of a call that lends slices.
-pub fn call(code: u64, given: &[u64], status: u32, result: &[u64]) -> Words {
-    [&[code, given.len() as u64], given, &[status.into(), result.len() as u64], result].concat()
+/// The words of an input and its answer; a refusal has no result.
+pub fn record(given: &[u64], status: u32, result: &[u64]) -> Words {
+    [&[given.len() as u64], given, &[status.into(), result.len() as u64], result].concat()
 }
 
 /// How many are recorded of a call at least, and how many of these at least

@@ -101,14 +101,13 @@ fn grid() -> Box<dyn Op> {
         .op()
 }
 
-/// Grid points whose three coordinates are one number; the output is the
-/// first coordinate, 0 on a refusal.
+/// Grid points whose three coordinates are one number.
 fn recorded_grid() -> Vec<Words> {
     let notable = inputs::notable_metres().into_iter().chain(inputs::special());
     let drawn = (0..).map(|case| inputs::metres(&mut Rng::at(1, case)));
     let vector = |x| match judge::grid(&[f64::from_bits(x); 3]) {
-        Ok(whole) => words::number(7, [x, 0], whole[0].to_bits(), 0),
-        Err(refusal) => words::number(7, [x, 0], 0, refusal.into()),
+        Ok(whole) => words::record(&[x; 3], 0, &whole.map(f64::to_bits)),
+        Err(refusal) => words::record(&[x; 3], refusal, &[]),
     };
     notable.chain(drawn).take(words::NUMBERS).map(vector).collect()
 }

@@ -23,11 +23,11 @@ module _ (n : List ℕ) (t : ℕ) (b : Bool) (e : b ≡ isLent n (t / 2)) where
   unfolding tried
   as-given h = rw (← e, h)
 
-  module _ (status got : ℕ) (answer left : List Float) (s : Bool) where
-    pub refused-so : b ≡ true → (k : ℕ) → k ≡ refusalAt (t / 2) → s ≡ allSame left blank → (eqb got k && s) ≡ accepted n t status answer got left
+  module _ (signed : Bool) (status got : ℕ) (answer left : List Float) (s : Bool) where
+    pub refused-so : b ≡ true → (k : ℕ) → k ≡ refusalAt (t / 2) → s ≡ allSame true left blank → (eqb got k && s) ≡ accepted n t signed status answer got left
     unfolding accepted
     refused-so h k p q = rw (← e, h, p, q)
 
-    pub answered-so : b ≡ false → s ≡ allSame left answer → (eqb got status && s) ≡ accepted n t status answer got left
+    pub answered-so : b ≡ false → s ≡ allSame signed left answer → (eqb got status && s) ≡ accepted n t signed status answer got left
     unfolding accepted
     answered-so h q = rw (← e, h, q)

@@ -1,5 +1,5 @@
 -- The calls that a record is tried with. Definitions only.
-use mathlib.Core.Bool.{Bool, cond, _&&_}
+use mathlib.Core.Bool.{Bool, true, cond, _&&_}
 use mathlib.Core.List.{List}
 use Prim.Native.Nat.{ℕ, _/_, _%_}
 use lib.Dec.{eqb}
@@ -17,5 +17,5 @@ unfoldable pub tried : List ℕ → ℕ → List ℕ
 tried n t = cond (isLent n (t / 2)) (cond (eqb (t % 2) 0) (shorter n (t / 2)) (longer n (t / 2))) n
 
 -- a wrong length is refused and leaves the result as it was; a trial of the right lengths answers as was recorded
-unfoldable pub accepted : List ℕ → ℕ → ℕ → List Float → ℕ → List Float → Bool
-accepted n t status answer got left = cond (isLent n (t / 2)) (eqb got (refusalAt (t / 2)) && allSame left blank) (eqb got status && allSame left answer)
+unfoldable pub accepted : List ℕ → ℕ → Bool → ℕ → List Float → ℕ → List Float → Bool
+accepted n t signed status answer got left = cond (isLent n (t / 2)) (eqb got (refusalAt (t / 2)) && allSame true left blank) (eqb got status && allSame signed left answer)

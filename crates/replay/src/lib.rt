@@ -1,5 +1,5 @@
-// What the programs that replay recorded answers share: the words of a record, the inputs of a call, what it
-// answers, and the comparison. What reads and prints is in the programs, since no equation can say it.
+// What a replay of recorded answers stands on: the words of a record, the inputs of a call, what it answers, and
+// the comparison. What reads and prints is in the program, since no equation can say it.
 ghost use mathlib.Core.Path.{_≡_};
 ghost use Prim.Native.Nat.{_<_};
 

@@ -1,23 +1,23 @@
-// Whether answers are those recorded.
+// Whether answers are those recorded, with the signs of their zeros or whatever these are.
 ghost use mathlib.Core.Path.{_≡_};
 ghost use Rattle.replay.specs.Same.{same, allSame};
 use number::format::to_bits;
 
-pub fn same(x: f64, y: f64) -> bool
-    ensures { λ r. ⌜ r ≡ same x y ⌝ }
+pub fn same(signed: bool, x: f64, y: f64) -> bool
+    ensures { λ r. ⌜ r ≡ same signed x y ⌝ }
 {
-    (to_bits(x) == to_bits(y)) | ((x == 0.0) & (y == 0.0))
+    (to_bits(x) == to_bits(y)) | (!signed & (x == 0.0) & (y == 0.0))
 }
 
-fn slices_same(a: &[f64], b: &[f64]) -> bool
-    ensures { λ r. ⌜ r ≡ allSame (now (a .entry)) (now (b .entry)) ⌝ }
+fn slices_same(signed: bool, a: &[f64], b: &[f64]) -> bool
+    ensures { λ r. ⌜ r ≡ allSame signed (now (a .entry)) (now (b .entry)) ⌝ }
 {
     if a.len() != b.len() {
         return false;
     }
     let mut i: usize = 0;
     while i < a.len() {
-        if !same(a[i], b[i]) {
+        if !same(signed, a[i], b[i]) {
             return false;
         }
         i += 1;
@@ -25,8 +25,8 @@ fn slices_same(a: &[f64], b: &[f64]) -> bool
     true
 }
 
-pub fn all_same(a: &[f64; 80], b: &[f64; 80]) -> bool
-    ensures { λ r. ⌜ r ≡ allSame (now (a .entry)) (now (b .entry)) ⌝ }
+pub fn all_same(signed: bool, a: &[f64; 80], b: &[f64; 80]) -> bool
+    ensures { λ r. ⌜ r ≡ allSame signed (now (a .entry)) (now (b .entry)) ⌝ }
 {
-    slices_same(a, b)
+    slices_same(signed, a, b)
 }

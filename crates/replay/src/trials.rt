@@ -2,6 +2,7 @@
 // which must be refused and leave the result as it was; every other trial is the call as it was recorded.
 ghost use mathlib.Core.Path.{_≡_};
 ghost use lib.ListN.{length};
+ghost use mathlib.Core.Bool.{true};
 ghost use Rattle.replay.specs.Same.{allSame};
 ghost use Rattle.replay.specs.Trials.{blank, tried, accepted};
 use crate::lengths::is_lent;
@@ -32,26 +33,28 @@ pub fn tried(lengths: [u8; 5], trial: usize) -> [u8; 5]
 }
 
 fn is_blank(numbers: &[f64; 80]) -> bool
-    ensures { λ r. ⌜ r ≡ allSame (now (numbers .entry)) blank ⌝ }
+    ensures { λ r. ⌜ r ≡ allSame true (now (numbers .entry)) blank ⌝ }
 {
     let nothing = blank();
-    all_same(numbers, &nothing)
+    all_same(true, numbers, &nothing)
 }
 
-// Whether a trial's status, and the numbers that it left, are as they must be.
+// Whether a trial's status, and the numbers that it left, are as they must be: with the signs of their zeros,
+// or whatever these are.
 pub fn accepts(
     lengths: [u8; 5],
     trial: usize,
+    signed: bool,
     status: u64,
     answer: &[f64; 80],
     got: u64,
     left: &[f64; 80],
 ) -> bool
-    ensures { λ r. ⌜ r ≡ accepted lengths trial status (now (answer .entry)) got (now (left .entry)) ⌝ }
+    ensures { λ r. ⌜ r ≡ accepted lengths trial signed status (now (answer .entry)) got (now (left .entry)) ⌝ }
 {
     let at = trial / 2;
     if is_lent(lengths, at) {
         return (got == refusal(at)) & is_blank(left);
     }
-    (got == status) & all_same(left, answer)
+    (got == status) & all_same(signed, left, answer)
 }

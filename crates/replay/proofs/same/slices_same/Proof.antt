@@ -10,15 +10,15 @@ use Rattle.replay.proofs.same.slices_same.Statement.{statement}
 use Rattle.replay.proofs.same.slices_same.Tie as tie
 
 abbrev Inv-loop : tie.InvT-loop
-Inv-loop a b i₀ i = (i ≤ length a) × (allSame a b ≡ allSame (drop i a) (drop i b))
+Inv-loop signed a b i₀ i = (i ≤ length a) × (allSame signed a b ≡ allSame signed (drop i a) (drop i b))
 
 abbrev μ-loop : tie.MeasureT-loop
-μ-loop a b i₀ i = length a - i
+μ-loop signed a b i₀ i = length a - i
 
 returns : tie.Need-returns Inv-loop μ-loop
 returns c =
     let s = c .before .before .before .args in
-    sym (other-length (s .a .now) (s .b .now) (c .if1 .taken))
+    sym (other-length (s .signed) (s .a .now) (s .b .now) (c .if1 .taken))
 
 loop-holds : tie.Need-loop-holds Inv-loop μ-loop
 loop-holds c = (search needs, refl)
@@ -42,7 +42,7 @@ returns-2 : tie.Need-returns-2 Inv-loop μ-loop
 returns-2 c =
     let l = c .before .before .before .before .before .loop in
     let s = c .before .before .before .before .before .before .before .before .before .args in
-    sym (l .inv .1 ∙ differs (s .a .now) (s .b .now) (l .i) (search needs) (omega (arith, c .before .before .before .before .before .before .if1 .left)) _ (c .before .same .ensures) (c .if2 .taken))
+    sym (l .inv .1 ∙ differs (s .signed) (s .a .now) (s .b .now) (l .i) (search needs) (omega (arith, c .before .before .before .before .before .before .if1 .left)) _ (c .before .same .ensures) (c .if2 .taken))
 
 add-i : tie.Need-add-i Inv-loop μ-loop
 add-i c = search needs
@@ -54,13 +54,13 @@ loop-again : tie.Need-loop-again Inv-loop μ-loop
 loop-again c =
     let l = c .before .before .before .before .before .loop in
     let s = c .before .before .before .before .before .before .before .before .before .args in
-    (search needs, l .inv .1 ∙ agrees (s .a .now) (s .b .now) (l .i) (search needs) (omega (arith, c .before .before .before .before .before .before .if1 .left)) _ (c .before .same .ensures) (c .if2 .left))
+    (search needs, l .inv .1 ∙ agrees (s .signed) (s .a .now) (s .b .now) (l .i) (search needs) (omega (arith, c .before .before .before .before .before .before .if1 .left)) _ (c .before .same .ensures) (c .if2 .left))
 
 returns-3 : tie.Need-returns-3 Inv-loop μ-loop
 returns-3 c =
     let l = c .before .loop in
     let s = c .before .before .before .before .before .args in
-    sym (l .inv .1 ∙ none-left (s .a .now) (s .b .now) (l .i) (omega arith) (omega (arith, c .before .before .if1 .left)))
+    sym (l .inv .1 ∙ none-left (s .signed) (s .a .now) (s .b .now) (l .i) (omega arith) (omega (arith, c .before .before .if1 .left)))
 
 pub slices-same-spec : {M : Type 1} → statement M
 slices-same-spec =

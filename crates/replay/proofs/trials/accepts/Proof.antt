@@ -16,7 +16,7 @@ is-blank-requires c κs = search needs
 returns : tie.Need-returns
 returns c =
     let s = c .before .before .before .before .args in
-    refused-so (s .lengths) (s .trial) _ (c .before .before .before .is-lent .ensures) (s .status) (s .got) (s .answer .now) (s .left .now) _ (c .before .before .if1 .taken) _ (c .before .refusal .ensures) (c .is-blank .ensures)
+    refused-so (s .lengths) (s .trial) _ (c .before .before .before .is-lent .ensures) (s .signed) (s .status) (s .got) (s .answer .now) (s .left .now) _ (c .before .before .if1 .taken) _ (c .before .refusal .ensures) (c .is-blank .ensures)
 
 all-same-requires : tie.Need-all-same-requires
 all-same-requires c κs = search needs
@@ -24,7 +24,7 @@ all-same-requires c κs = search needs
 returns-2 : tie.Need-returns-2
 returns-2 c =
     let s = c .before .before .before .args in
-    answered-so (s .lengths) (s .trial) _ (c .before .before .is-lent .ensures) (s .status) (s .got) (s .answer .now) (s .left .now) _ (c .before .if1 .left) (c .all-same .ensures)
+    answered-so (s .lengths) (s .trial) _ (c .before .before .is-lent .ensures) (s .signed) (s .status) (s .got) (s .answer .now) (s .left .now) _ (c .before .if1 .left) (c .all-same .ensures)
 
 pub accepts-spec : {M : Type 1} → statement M
 accepts-spec =

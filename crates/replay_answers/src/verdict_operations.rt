@@ -2,15 +2,13 @@
 use number::slice::at;
 use replay::answer::put_number;
 use replay::answer::put_verdict;
-use replay::inputs::first;
-use replay::inputs::rest;
 use verdict::bbox_calls;
 use verdict::frustum_calls;
 use verdict::plane_calls;
 use verdict::projection_calls;
 use verdict::ray_calls;
 
-// The lengths of its four inputs, and of its result.
+// The lengths of its four inputs, and of its result; no result where there is no such operation.
 pub(crate) fn lengths(code: u64) -> [u8; 5] {
     match code {
         201 => [23, 23, 0, 0, 23],
@@ -33,7 +31,8 @@ pub(crate) fn lengths(code: u64) -> [u8; 5] {
         219 => [48, 3, 3, 0, 1],
         220 => [48, 3, 3, 3, 1],
         221 => [48, 23, 0, 0, 1],
-        _ => [23, 16, 0, 0, 1],
+        222 => [23, 16, 0, 0, 1],
+        _ => [0, 0, 0, 0, 0],
     }
 }
 
@@ -80,14 +79,8 @@ fn frustum_call(code: u64, a: &[f64], b: &[f64], c: &[f64], d: &[f64], out: &mut
     put_verdict(verdict, out)
 }
 
-// Calls an operation with inputs of these lengths, and answers its status.
-pub(crate) fn call(code: u64, given: &[f64], lengths: [u8; 5], out: &mut [f64]) -> u32 {
-    let a = first(given, lengths[0] as usize);
-    let past_a = rest(given, lengths[0] as usize);
-    let b = first(past_a, lengths[1] as usize);
-    let past_b = rest(past_a, lengths[1] as usize);
-    let c = first(past_b, lengths[2] as usize);
-    let d = first(rest(past_b, lengths[2] as usize), lengths[3] as usize);
+// Calls an operation, and answers its status.
+pub(crate) fn call(code: u64, a: &[f64], b: &[f64], c: &[f64], d: &[f64], out: &mut [f64]) -> u32 {
     if code < 206 {
         return bbox_call(code, a, b, out);
     }

@@ -3,10 +3,8 @@ use matrix::matrix_calls;
 use matrix::range_calls;
 use replay::answer::put_number;
 use replay::answer::put_verdict;
-use replay::inputs::first;
-use replay::inputs::rest;
 
-// The lengths of its four inputs, and of its result.
+// The lengths of its four inputs, and of its result; no result where there is no such operation.
 pub(crate) fn lengths(code: u64) -> [u8; 5] {
     match code {
         101 => [16, 16, 0, 0, 16],
@@ -19,7 +17,8 @@ pub(crate) fn lengths(code: u64) -> [u8; 5] {
         113 => [6, 0, 0, 0, 3],
         114 => [6, 3, 0, 0, 1],
         115 => [6, 16, 0, 0, 6],
-        _ => [6, 0, 0, 0, 24],
+        116 => [6, 0, 0, 0, 24],
+        _ => [0, 0, 0, 0, 0],
     }
 }
 
@@ -49,10 +48,8 @@ fn range_call(code: u64, a: &[f64], b: &[f64], out: &mut [f64]) -> u32 {
     }
 }
 
-// Calls an operation with inputs of these lengths, and answers its status.
-pub(crate) fn call(code: u64, given: &[f64], lengths: [u8; 5], out: &mut [f64]) -> u32 {
-    let a = first(given, lengths[0] as usize);
-    let b = first(rest(given, lengths[0] as usize), lengths[1] as usize);
+// Calls an operation, and answers its status.
+pub(crate) fn call(code: u64, a: &[f64], b: &[f64], out: &mut [f64]) -> u32 {
     if code < 110 {
         return matrix_call(code, a, b, out);
     }

@@ -1,14 +1,25 @@
 // Replays answers recorded from Rust. For each operation the program writes how many of its records the
-// crates `matrix` and `verdict` agree with, and how many it read.
+// crates `number`, `matrix` and `verdict` agree with, and how many it read.
 mod calls;
 mod matrix_operations;
+mod number_operations;
 mod record;
 mod verdict_operations;
 
 use record::print_count;
 use record::replay_all;
 
-fn print_matrix_counts(agreed: &[u64; 39], read: &[u64; 39]) {
+fn print_number_counts(agreed: &[u64; 256], read: &[u64; 256]) {
+    print_count(b"sqrt", 1, agreed, read);
+    print_count(b"abs", 2, agreed, read);
+    print_count(b"min", 3, agreed, read);
+    print_count(b"max", 4, agreed, read);
+    print_count(b"narrow", 5, agreed, read);
+    print_count(b"widen", 6, agreed, read);
+    print_count(b"grid", 7, agreed, read);
+}
+
+fn print_matrix_counts(agreed: &[u64; 256], read: &[u64; 256]) {
     print_count(b"product", 101, agreed, read);
     print_count(b"transpose", 102, agreed, read);
     print_count(b"inverse", 103, agreed, read);
@@ -20,7 +31,7 @@ fn print_matrix_counts(agreed: &[u64; 39], read: &[u64; 39]) {
     print_count(b"is_right_handed", 109, agreed, read);
 }
 
-fn print_range_counts(agreed: &[u64; 39], read: &[u64; 39]) {
+fn print_range_counts(agreed: &[u64; 256], read: &[u64; 256]) {
     print_count(b"range_is_empty", 110, agreed, read);
     print_count(b"range_union", 111, agreed, read);
     print_count(b"range_intersection", 112, agreed, read);
@@ -30,7 +41,7 @@ fn print_range_counts(agreed: &[u64; 39], read: &[u64; 39]) {
     print_count(b"range_corners", 116, agreed, read);
 }
 
-fn print_bbox_counts(agreed: &[u64; 39], read: &[u64; 39]) {
+fn print_bbox_counts(agreed: &[u64; 256], read: &[u64; 256]) {
     print_count(b"bbox_combine", 201, agreed, read);
     print_count(b"bbox_transform", 202, agreed, read);
     print_count(b"bbox_volume", 203, agreed, read);
@@ -38,7 +49,7 @@ fn print_bbox_counts(agreed: &[u64; 39], read: &[u64; 39]) {
     print_count(b"bbox_centroid", 205, agreed, read);
 }
 
-fn print_plane_counts(agreed: &[u64; 39], read: &[u64; 39]) {
+fn print_plane_counts(agreed: &[u64; 256], read: &[u64; 256]) {
     print_count(b"plane_new", 206, agreed, read);
     print_count(b"plane_from_points", 207, agreed, read);
     print_count(b"plane_from_equation", 208, agreed, read);
@@ -47,19 +58,19 @@ fn print_plane_counts(agreed: &[u64; 39], read: &[u64; 39]) {
     print_count(b"plane_transformed", 211, agreed, read);
 }
 
-fn print_ray_counts(agreed: &[u64; 39], read: &[u64; 39]) {
+fn print_ray_counts(agreed: &[u64; 256], read: &[u64; 256]) {
     print_count(b"ray_point", 212, agreed, read);
     print_count(b"ray_transformed", 213, agreed, read);
     print_count(b"ray_intersect_plane", 214, agreed, read);
     print_count(b"ray_intersect_triangle", 215, agreed, read);
 }
 
-fn print_projection_counts(agreed: &[u64; 39], read: &[u64; 39]) {
+fn print_projection_counts(agreed: &[u64; 256], read: &[u64; 256]) {
     print_count(b"projection_matrix", 216, agreed, read);
     print_count(b"projection_from_matrix", 217, agreed, read);
 }
 
-fn print_verdict_counts(agreed: &[u64; 39], read: &[u64; 39]) {
+fn print_verdict_counts(agreed: &[u64; 256], read: &[u64; 256]) {
     print_count(b"intersects_point", 218, agreed, read);
     print_count(b"intersects_segment", 219, agreed, read);
     print_count(b"intersects_triangle", 220, agreed, read);
@@ -68,9 +79,10 @@ fn print_verdict_counts(agreed: &[u64; 39], read: &[u64; 39]) {
 }
 
 fn main() {
-    let mut agreed = [0u64; 39];
-    let mut read = [0u64; 39];
+    let mut agreed = [0u64; 256];
+    let mut read = [0u64; 256];
     replay_all(&mut agreed, &mut read);
+    print_number_counts(&agreed, &read);
     print_matrix_counts(&agreed, &read);
     print_range_counts(&agreed, &read);
     print_bbox_counts(&agreed, &read);

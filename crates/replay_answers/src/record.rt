@@ -3,6 +3,7 @@
 // one word, a yes the word 1 and a no the word 0. A refused call has no answer.
 use crate::calls::call;
 use crate::calls::lengths;
+use crate::calls::signed;
 use crate::calls::slot;
 use replay::counts::count;
 use replay::lengths::total;
@@ -39,7 +40,7 @@ fn passes(trial: usize, code: u64, given: &[f64; 80], status: u64, answer: &[f64
     }
     let mut out = blank();
     let got = call(code, given, lengths, &mut out[0..room]);
-    accepts(right, trial, status, answer, got as u64, &out)
+    accepts(right, trial, signed(code), status, answer, got as u64, &out)
 }
 
 // The ten trials of wrong lengths, and the call as it was recorded.
@@ -78,7 +79,7 @@ fn print_difference(place: u64) {
 
 // Replays the next record, and answers whether there was one of a known operation. Tells its place where it
 // is the operation's first that differs.
-fn replay_next(place: u64, agreed: &mut [u64; 39], read: &mut [u64; 39]) -> bool {
+fn replay_next(place: u64, agreed: &mut [u64; 256], read: &mut [u64; 256]) -> bool {
     let code = read_word();
     if code == 0 {
         return false;
@@ -97,14 +98,14 @@ fn replay_next(place: u64, agreed: &mut [u64; 39], read: &mut [u64; 39]) -> bool
     true
 }
 
-pub(crate) fn replay_all(agreed: &mut [u64; 39], read: &mut [u64; 39]) {
+pub(crate) fn replay_all(agreed: &mut [u64; 256], read: &mut [u64; 256]) {
     let mut place: u64 = 0;
     while place < u64::MAX && replay_next(place, agreed, read) {
         place += 1;
     }
 }
 
-pub(crate) fn print_count(name: &[u8], code: u64, agreed: &[u64; 39], read: &[u64; 39]) {
+pub(crate) fn print_count(name: &[u8], code: u64, agreed: &[u64; 256], read: &[u64; 256]) {
     let at = slot(code);
     io::write_all(1, name);
     io::write_all(1, b" ");

@@ -1,8 +1,8 @@
--- `replay_number::replay_all` is safe and ends: the place rises, and stays below 2 ^ 64. Assumes nothing.
+-- `replay_answers::record::replay_all` is safe and ends: the place rises, and stays below 2 ^ 64. Assumes nothing.
 use Prim.Native.Nat.{_-_}
 use native.Mathlib.Omega.{arith}
-use Rattle.replay_number.proofs.replay_all.Statement.{statement}
-use Rattle.replay_number.proofs.replay_all.Tie as tie
+use Rattle.replay_answers.proofs.record.replay_all.Statement.{statement}
+use Rattle.replay_answers.proofs.record.replay_all.Tie as tie
 
 abbrev Inv-loop : tie.InvT-loop
 Inv-loop agreed₀ read₀ place₀ agreed read place = Unit {0}

@@ -1,0 +1,53 @@
+// The operations of the crates `number`, codes from 1, `matrix`, from 101, and `verdict`, from 201.
+ghost use Prim.Native.Nat.{_<_};
+use crate::matrix_operations;
+use crate::number_operations;
+use crate::verdict_operations;
+use replay::inputs::first;
+use replay::inputs::rest;
+
+// The lengths of its four inputs, and of its result; no result where there is no such operation.
+pub(crate) fn lengths(code: u64) -> [u8; 5] {
+    if code <= 100 {
+        return number_operations::lengths(code);
+    }
+    if code <= 200 {
+        return matrix_operations::lengths(code);
+    }
+    verdict_operations::lengths(code)
+}
+
+// Where an operation is counted: at its code; 0 where there is no such operation.
+pub(crate) fn slot(code: u64) -> usize
+    ensures { λ r. ⌜ r < 256 ⌝ }
+{
+    if 256 <= code {
+        return 0;
+    }
+    if lengths(code)[4] == 0 {
+        return 0;
+    }
+    code as usize
+}
+
+// Whether the zeros of its result must have the signs that were recorded.
+pub(crate) fn signed(code: u64) -> bool {
+    code <= 100
+}
+
+// Calls an operation with inputs of these lengths, and answers its status.
+pub(crate) fn call(code: u64, given: &[f64], lengths: [u8; 5], out: &mut [f64]) -> u32 {
+    let a = first(given, lengths[0] as usize);
+    let past_a = rest(given, lengths[0] as usize);
+    let b = first(past_a, lengths[1] as usize);
+    let past_b = rest(past_a, lengths[1] as usize);
+    let c = first(past_b, lengths[2] as usize);
+    let d = first(rest(past_b, lengths[2] as usize), lengths[3] as usize);
+    if code <= 100 {
+        return number_operations::call(code, a, b, out);
+    }
+    if code <= 200 {
+        return matrix_operations::call(code, a, b, out);
+    }
+    verdict_operations::call(code, a, b, c, d, out)
+}
