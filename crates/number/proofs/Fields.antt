@@ -77,7 +77,8 @@ pub normal : (b a x : ℕ) → a ≡ b % 2 ^ 52 → x ≡ b / 2 ^ 52 → 0 < x �
 normal b a x e f p = record {
   leading = omega arith;
   digits = omega (arith, mod-lt b (pow-pos 52));
-  scale = omega arith;
+  least = omega arith;
+  most = omega arith;
   value = units x p ∙ ap (λ (i : ℕ). fieldUnits binary64 x i * 2 ^ 52) e ∙ ap (λ (i : ℕ). fieldUnits binary64 i (b % 2 ^ 52) * 2 ^ 52) f;
 }
   where

@@ -4,6 +4,7 @@ use mathlib.Core.Path.{_≡_, refl, sym, ap, _∙_, subst}
 use mathlib.Core.Bool.{Bool, true, false, cond}
 use Prim.Native.Nat.{ℕ, _+_, _-_, _*_, _/_, _%_, _^_, _≤_, _<_, min, compare}
 use native.Mathlib.Nat.{mul-assoc, mul-pos, mul-le-mul-right, mul-lt-mul-of-pos-right, le-trans, le-of-eq, lt-of-lt-of-le, le-div-iff-mul-le, div-lt-iff-lt-mul}
+use native.Mathlib.Decide.{decLt}
 use native.Mathlib.Omega.{arith}
 use lib.Pow.{pow-pos, pow-mono, pow-add}
 use lib.Dec.{leb}
@@ -15,9 +16,9 @@ use lib.Ieee.Scale.{round-same}
 use Rattle.number.specs.declared.Scaled.{Scaled}
 use Rattle.number.specs.Format.{narrowOf}
 use Rattle.number.specs.Steps.{Narrowed, Normalised, unitsOf}
-use Rattle.number.proofs.Fields.{bits-value, signed, unsigned, normal}
+use Rattle.number.proofs.Fields.{bits-value, signed, unsigned}
 use Rattle.number.proofs.Pack.{pack}
-use Rattle.number.proofs.Rounding.{closest-even, closest-zero, round-at}
+use Rattle.number.proofs.Rounding.{closest-zero, round-at}
 
 -- ---- what is left of a number after the division
 kept-ge : (a d p : ℕ) → 2 ^ p * 2 ^ d ≤ a → 2 ^ p ≤ closest a (2 ^ d)
@@ -88,44 +89,20 @@ value s b h = at (cond s (2 ^ 63) 0 + b) (rest s) (is s)
 module _ (b : ℕ) (l : b < 2047 * 2 ^ 52) (p : Scaled) (h : Normalised b p) where
   -- the packed pattern
   at : (k d r : ℕ) (e : p .scale + 149 + d ≡ 1126 + k) (f : 53 + (p .scale + 149) ≤ 24 + k + 1126) (g : 0 < k → 23 + k + 1126 ≤ 52 + (p .scale + 149))
-      → r ≡ min (k * 2 ^ 23 + closest (p .significand) (2 ^ d)) (255 * 2 ^ 23) → Narrowed b r
+      → (closest (p .significand) (2 ^ d) ≤ 2 ^ 24 → (0 < k → 2 ^ 23 ≤ closest (p .significand) (2 ^ d)) → r ≡ min (k * 2 ^ 23 + closest (p .significand) (2 ^ d)) (255 * 2 ^ 23))
+      → Narrowed b r
   at k d r e f g q = record {
-    most = omega arith;
+    most = let z = is in omega arith;
     rounded = λ s.
-        ap (λ (i : ℕ). ofBits binary32 (cond s (top binary32) 0 + i)) q
+        ap (λ (i : ℕ). ofBits binary32 (cond s (top binary32) 0 + i)) is
         ∙ narrow-packed (p .significand) (p .scale) (unitsOf binary64 b) (h .leading) (h .digits) (h .value) k d e f g s
         ∙ sym (narrow-value _ s (unitsOf binary64 b) (value s b l));
   }
-
--- below the smallest normal number
-module _ (b : ℕ) (l : b < 897 * 2 ^ 52) (p : Scaled) (h : Normalised b p) where
-  pub scale-most : p .scale ≤ 948
-  scale-most = let z = h .scale in omega arith
-
-  pub narrow-subnormal : (r : ℕ) → r ≡ closest (p .significand) (2 ^ (977 - p .scale)) → Narrowed b r
-  narrow-subnormal r e =
-      let w = scale-most in
-      let q = kept-most (p .significand) (p .scale) (unitsOf binary64 b) (h .leading) (h .digits) (h .value) 0 (977 - p .scale) (omega arith) (omega arith) (λ z. absurd (omega arith)) in
-      at b (omega arith) p h 0 (977 - p .scale) r (omega arith) (omega arith) (λ z. absurd (omega arith)) (omega arith)
-
-  pub narrow-nothing : p .scale < 914 → Narrowed b 0
-  narrow-nothing g = narrow-subnormal 0 (sym (closest-zero (p .significand) (2 ^ (977 - p .scale)) (lt-of-lt-of-le twice (pow-mono {i = 54} {j = 977 - p .scale} (omega arith)))))
     where
-      twice : p .significand * 2 < 2 ^ 54
-      twice = let z = h .digits in omega arith
-
--- from it on: the exponent's field is even in units of what is kept, so that it may stay where it is while the fraction is rounded
-pub narrow-normal : (b r : ℕ) → 897 * 2 ^ 52 ≤ b → b < 2047 * 2 ^ 52 → r ≡ min (closest b (2 ^ 29) - 896 * 2 ^ 23) (255 * 2 ^ 23) → Narrowed b r
-narrow-normal b r lo hi e =
-    at b hi _ (normal b (b % 2 ^ 52) (b / 2 ^ 52) refl refl (omega arith)) (b / 2 ^ 52 - 897) 29 r (omega arith) (omega arith) (λ z. omega arith)
-    (e ∙ ap (λ (i : ℕ). min i (255 * 2 ^ 23)) fields)
-  where
-    fields : closest b (2 ^ 29) - 896 * 2 ^ 23 ≡ (b / 2 ^ 52 - 897) * 2 ^ 23 + closest (2 ^ 52 + b % 2 ^ 52) (2 ^ 29)
-    fields =
-        let q = (b / 2 ^ 52 - 1) * 2 ^ 22 in
-        let x = ap (λ (i : ℕ). closest i (2 ^ 29)) {x = b} {y = 2 * q * 2 ^ 29 + (2 ^ 52 + b % 2 ^ 52)} (omega arith) in
-        let y = closest-even q (2 ^ 52 + b % 2 ^ 52) (2 ^ 29) (pow-pos 29) in
-        omega arith
+      is : r ≡ min (k * 2 ^ 23 + closest (p .significand) (2 ^ d)) (255 * 2 ^ 23)
+      is =
+          q (kept-most (p .significand) (p .scale) (unitsOf binary64 b) (h .leading) (h .digits) (h .value) k d e f g)
+          (kept-least (p .significand) (p .scale) (unitsOf binary64 b) (h .leading) (h .digits) (h .value) k d e f g)
 
 pub narrow-zero : Narrowed 0 0
 unfolding ofBits narrowOf round
@@ -134,3 +111,30 @@ narrow-zero = record { most = omega arith; rounded = λ s. elim s [ true ↦ ref
 pub narrow-infinite : Narrowed (2047 * 2 ^ 52) (255 * 2 ^ 23)
 unfolding ofBits narrowOf round
 narrow-infinite = record { most = omega arith; rounded = λ s. elim s [ true ↦ refl | false ↦ refl ] }
+
+-- ---- by the scale
+module _ (b : ℕ) (p : Scaled) (h : Normalised b p) where
+  -- below 2 ^ 128 it is no infinity's
+  finite : p .scale < 1202 → b < 2047 * 2 ^ 52
+  finite g = let z = h .least in omega arith
+
+  pub narrow-too-large : b ≤ 2047 * 2 ^ 52 → 1202 ≤ p .scale → Narrowed b (255 * 2 ^ 23)
+  narrow-too-large u g = elim (decLt b (2047 * 2 ^ 52)) [
+    | yes l ↦ at b l p h (p .scale - 948) 29 (255 * 2 ^ 23) (omega arith) (omega arith) (λ z. omega arith) (λ hi lo. let z = lo (omega arith) in omega arith)
+    | no n ↦ subst (λ (i : ℕ). Narrowed i (255 * 2 ^ 23)) {x = 2047 * 2 ^ 52} {y = b} (omega arith) narrow-infinite
+  ]
+
+  -- the exponent's field is shifted to its place
+  pub narrow-normal : 948 ≤ p .scale → p .scale < 1202 → (q : ℕ) → q ≡ closest (p .significand) (2 ^ 29) → Narrowed b ((p .scale - 948) * 2 ^ 23 % 2 ^ 64 + q)
+  narrow-normal m g q e = at b (finite g) p h (p .scale - 948) 29 _ (omega arith) (omega arith) (λ z. omega arith) (λ hi lo. omega arith)
+
+  pub narrow-subnormal : p .scale < 948 → (r : ℕ) → r ≡ closest (p .significand) (2 ^ (977 - p .scale)) → Narrowed b r
+  narrow-subnormal g r e = at b (finite (omega arith)) p h 0 (977 - p .scale) r (omega arith) (omega arith) (λ z. absurd (omega arith)) (λ hi lo. omega arith)
+
+  pub narrow-nothing : p .scale < 914 → Narrowed b 0
+  narrow-nothing g =
+      narrow-subnormal (omega arith) 0
+      (sym (closest-zero (p .significand) (2 ^ (977 - p .scale)) (lt-of-lt-of-le twice (pow-mono {i = 54} {j = 977 - p .scale} (omega arith)))))
+    where
+      twice : p .significand * 2 < 2 ^ 54
+      twice = let z = h .digits in omega arith

@@ -8,8 +8,9 @@ use native.Mathlib.Omega.{arith}
 use lib.Pow.{pow-pos, pow-mono, pow-add, shl-lt}
 use lib.Ieee.{binary64, ofBits, units, hid, ones}
 use lib.Ieee.Fits.{nearest-le}
-use lib.Ieee.Nearest.{closest, nearest-ge}
+use lib.Ieee.Nearest.{nearest-ge}
 use Rattle.number.specs.Root.{rootOf, restOf, roundRoot}
+use Rattle.number.specs.Steps.{rootDigits}
 use Rattle.number.proofs.Pack.{pack}
 use Rattle.number.proofs.WholeRoot.{root-le, root-lt, square-lt}
 use Rattle.number.proofs.RootRounding.{root-rounds, rest-le}
@@ -25,7 +26,7 @@ module _ (m w : ℕ) (lo : 2 ^ 52 ≤ m) (hi : m < 2 ^ 53) where
   pub shifted : m * 2 ^ (1 + w % 2) % 2 ^ 64 ≡ m * 2 ^ (1 + w % 2)
   shifted = mod-eq-of-lt (lt-of-lt-of-le shifted-lt (pow-mono {i = 55} {j = 64} (omega arith)))
 
-  abbrev pub N : ℕ
+  abbrev N : ℕ
   N = m * 2 ^ (1 + w % 2) * 2 ^ 53
 
   root-lo : 2 ^ 53 ≤ rootOf N
@@ -48,10 +49,10 @@ module _ (m w : ℕ) (lo : 2 ^ 52 ≤ m) (hi : m < 2 ^ 53) where
   small = let h = root-hi in let r = rest-le (rootOf N) N in omega arith
 
   -- the rounded significand
-  rounded-lo : 2 ^ 52 ≤ closest (2 * rootOf N + restOf (rootOf N) N) 4
+  rounded-lo : 2 ^ 52 ≤ rootDigits m w
   rounded-lo = let h = root-lo in le-trans (omega arith) (nearest-ge ((2 * rootOf N + restOf (rootOf N) N) / 4) (compare ((2 * rootOf N + restOf (rootOf N) N) % 4 * 2) 4))
 
-  pub rounded-hi : closest (2 * rootOf N + restOf (rootOf N) N) 4 ≤ 2 ^ 53
+  pub rounded-hi : rootDigits m w ≤ 2 ^ 53
   rounded-hi = let h = root-hi in let r = rest-le (rootOf N) N in le-trans (nearest-le ((2 * rootOf N + restOf (rootOf N) N) / 4) (compare ((2 * rootOf N + restOf (rootOf N) N) % 4 * 2) 4)) (omega arith)
 
   module _ (n : ℕ) (v : m * 2 ^ w ≡ n * 2 ^ 52) (top : w ≤ 2098) where
@@ -65,14 +66,14 @@ module _ (m w : ℕ) (lo : 2 ^ 52 ≤ m) (hi : m < 2 ^ 53) where
         ∙ ap (λ (i : ℕ). i * 2 ^ (w / 2 + 484 + (w / 2 + 484))) (sym (mul-assoc m (2 ^ (1 + w % 2)) (2 ^ 53)))
         ∙ ap (λ (i : ℕ). N * i) (pow-add 2 (w / 2 + 484) (w / 2 + 484))
 
-    pub joined : (q : ℕ) → q ≡ closest (2 * rootOf N + restOf (rootOf N) N) 4 → ofBits binary64 ((w / 2 + 485) * 2 ^ 52 % 2 ^ 64 + q) ≡ roundRoot binary64 (n * 2 ^ 1074)
+    pub joined : (q : ℕ) → q ≡ rootDigits m w → ofBits binary64 ((w / 2 + 485) * 2 ^ 52 % 2 ^ 64 + q) ≡ roundRoot binary64 (n * 2 ^ 1074)
     joined q e =
         ap (ofBits binary64) (bits q e)
         ∙ pack binary64 false q (w / 2 + 485) (le-trans (le-of-eq e) rounded-hi) (λ z. le-trans rounded-lo (le-of-eq (sym e)))
         ∙ ap (λ (i : ℕ). units binary64 false i (w / 2 + 485)) e
-        ∙ ap (units binary64 false (closest (2 * rootOf N + restOf (rootOf N) N) 4)) {x = w / 2 + 485} {y = suc (w / 2 + 484)} (omega arith)
+        ∙ ap (units binary64 false (rootDigits m w)) {x = w / 2 + 485} {y = suc (w / 2 + 484)} (omega arith)
         ∙ sym (root-rounds binary64 N (w / 2 + 484) root-lo root-hi)
         ∙ ap (roundRoot binary64) (sym under-root)
       where
-        bits : (q : ℕ) → q ≡ closest (2 * rootOf N + restOf (rootOf N) N) 4 → (w / 2 + 485) * 2 ^ 52 % 2 ^ 64 + q ≡ 0 + min ((w / 2 + 485) * hid binary64 + q) (ones binary64 * hid binary64)
+        bits : (q : ℕ) → q ≡ rootDigits m w → (w / 2 + 485) * 2 ^ 52 % 2 ^ 64 + q ≡ 0 + min ((w / 2 + 485) * hid binary64 + q) (ones binary64 * hid binary64)
         bits q e = let h = rounded-hi in let m = mod-eq-of-lt {n = (w / 2 + 485) * 2 ^ 52} {m = 2 ^ 64} (omega arith) in omega arith

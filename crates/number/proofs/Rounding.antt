@@ -81,17 +81,6 @@ closest-zero a b h =
     plus : (b a : ℕ) → a ≡ 0 * b + a
     plus b a = omega arith
 
--- an even number is kept
-pub closest-even : (q a b : ℕ) → 0 < b → closest (2 * q * b + a) b ≡ 2 * q + closest a b
-closest-even q a b B =
-    ap (λ (i : ℕ). closest i b) {x = 2 * q * b + a} {y = (2 * q + a / b) * b + a % b} (let e = div-add-mod' a b in omega arith)
-    ∙ closest-split (2 * q + a / b) (a % b) b (compare (a % b * 2) b) (mod-lt a B) refl ∙ more (a / b) (compare (a % b * 2) b)
-  where
-    more : (w : ℕ) (o : Ordering) → nearest (2 * q + w) o ≡ 2 * q + nearest w o
-    more w Ordering·lt = refl
-    more w Ordering·eq = omega arith
-    more w Ordering·gt = omega arith
-
 -- what lies strictly between 2 * r and 2 * (r + 1), in units of 2 ^ -2 of what is kept, rounds as 2 * r + 1 does
 pub closest-between : (r t a : ℕ) → 0 < t → 2 * r * t < a → a < 2 * suc r * t → closest a (4 * t) ≡ closest (2 * r + 1) 4
 closest-between r t a t0 l h = go (r / 2) (r % 2) (omega arith) (omega arith)

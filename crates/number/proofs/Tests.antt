@@ -1,11 +1,7 @@
 -- What a test of two conditions at once says of them. Assumes nothing.
-use mathlib.Core.Path.{_≡_, refl, sym, _∙_}
+use mathlib.Core.Path.{_≡_, refl}
 use mathlib.Core.Bool.{Bool, true, false, _&&_}
 
 pub both-hold : (s t : Bool) → (s && t) ≡ true → (s ≡ true) × (t ≡ true)
 both-hold true t e = (refl, e)
 both-hold false t e = (e, cc)
-
-pub first-fails : (s t : Bool) → (s && t) ≡ false → t ≡ true → s ≡ false
-first-fails true t e f = sym f ∙ e
-first-fails false t e f = refl

@@ -5,6 +5,7 @@ use mathlib.Core.Bool.{Bool, cond}
 use Prim.Native.Nat.{ℕ, zero, suc, _+_, _-_, _*_, _/_, _%_, _^_, _≤_, _<_}
 use lib.Dec.{leb}
 use lib.Ieee.{Format, binary32, binary64, hid, top, ofBits}
+use lib.Ieee.Nearest.{closest}
 use Rattle.number.specs.Format.{narrowOf}
 use Rattle.number.specs.Root.{rootOf, restOf}
 use Rattle.number.specs.declared.Scaled.{Scaled}
@@ -26,7 +27,8 @@ unitsOf f b = fieldUnits f (b / hid f) (b % hid f)
 pub record Normalised (b : ℕ) (p : Scaled) : Type 0 where
   pub leading : 2 ^ 52 ≤ p .significand
   pub digits : p .significand < 2 ^ 53
-  pub scale : p .scale ≤ b / 2 ^ 52 + 52
+  pub least : b / 2 ^ 52 ≤ p .scale
+  pub most : p .scale ≤ b / 2 ^ 52 + 52
   pub value : p .significand * 2 ^ (p .scale) ≡ unitsOf binary64 b * 2 ^ 52
 
 -- Of a magnitude with the pattern b, r is the pattern once it is rounded to binary32; either sign is added to both.
@@ -41,6 +43,10 @@ pub record Narrowed (b r : ℕ) : Type 0 where
 abbrev pub triedOf : PartialRoot → ℕ → PartialRoot
 triedOf s u =
     cond (leb (s .trial) (s .left)) (record { trial = s .trial - u / 4 + u; left = s .left - s .trial }) (record { trial = s .trial - u / 4; left = s .left })
+
+-- the 53 digits of the rounded root of m * 2 ^ (w - 52) smallest values, by a root of 54 digits and what is left
+abbrev pub rootDigits : ℕ → ℕ → ℕ
+rootDigits m w = let n = m * 2 ^ (1 + w % 2) * 2 ^ 53 in closest (2 * rootOf n + restOf (rootOf n) n) 4
 
 -- what a search for the whole root of n finds
 pub record Found (n : ℕ) (r : WholeRoot) : Type 0 where

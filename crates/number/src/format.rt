@@ -12,22 +12,23 @@ fn narrow_bits(magnitude: u64) -> u32
     requires { ⌜ magnitude ≤ 0x7ff0_0000_0000_0000 ⌝ }
     ensures { λ r. ⌜ Narrowed magnitude r ⌝ }
 {
-    // from 2 ^ -126, the smallest normal number, to below 2 ^ 128: 29 digits are dropped, and the exponent's field, into which a carry goes, is less by 896
-    if (0x3810_0000_0000_0000 <= magnitude) & (magnitude < 0x47f0_0000_0000_0000) {
-        return (nearest(magnitude, 29) - 0x1_c000_0000) as u32;
-    }
-    if 0x47f0_0000_0000_0000 <= magnitude {
-        return 0x7f80_0000;
-    }
     if magnitude == 0 {
         return 0;
     }
     let parts = normalised(magnitude);
     let scale = parts.scale;
+    // 2 ^ 128 and more
+    if 1202 <= scale {
+        return 0x7f80_0000;
+    }
+    // from 2 ^ -126, the smallest normal number, on: 29 digits are dropped, and the leading one, like a carry, counts in the exponent's field
+    if 948 <= scale {
+        return (((scale - 948) << 23) + nearest(parts.significand, 29)) as u32;
+    }
     if scale < 914 {
         return 0;
     }
-    // below the smallest normal number more than 29 digits are dropped
+    // below it more digits are dropped
     nearest(parts.significand, 977 - scale) as u32
 }
 

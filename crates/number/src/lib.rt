@@ -1,6 +1,6 @@
 // Numbers by their bits, the survey grid, and the answers and refusals of the whole engine.
 ghost use mathlib.Core.Path.{_≡_};
-ghost use Prim.Native.Nat.{_<_, _^_};
+ghost use Prim.Native.Nat.{_<_, _^_, _≤_};
 ghost use lib.Ieee.Nearest.{closest};
 ghost use Rattle.number.specs.Steps.{Normalised};
 
@@ -17,9 +17,9 @@ struct Scaled {
     scale: u64,
 }
 
-// The fields of a finite magnitude above zero, the leading digit of its significand at 2 ^ 52.
+// The fields of a magnitude above zero that is no NaN's, the leading digit of its significand at 2 ^ 52. Infinity has those of 2 ^ 1024.
 fn normalised(magnitude: u64) -> Scaled
-    requires { ⌜ (0 < magnitude) × (magnitude < 0x7ff0_0000_0000_0000) ⌝ }
+    requires { ⌜ (0 < magnitude) × (magnitude ≤ 0x7ff0_0000_0000_0000) ⌝ }
     ensures { λ r. ⌜ Normalised magnitude r ⌝ }
 {
     let field = magnitude >> 52;

@@ -3,7 +3,7 @@ ghost use mathlib.Core.Path.{_≡_};
 ghost use Prim.Native.Nat.{_+_, _*_, _<_, _^_, _≤_};
 ghost use lib.Ieee.{binary64, ofBits};
 ghost use Rattle.number.specs.Root.{roundRoot, sqrtOf};
-ghost use Rattle.number.specs.Steps.{Found, triedOf, unitsOf};
+ghost use Rattle.number.specs.Steps.{Found, rootDigits, triedOf, unitsOf};
 use crate::nearest;
 use crate::normalised;
 
@@ -64,12 +64,19 @@ fn search(number: u64) -> WholeRoot
     WholeRoot { root, rest: 1 }
 }
 
-// The root of a number whose bits are less than 2 ^ 26 away from those of 1: half way to them, rounded down.
-fn near_one(magnitude: u64) -> u64
-    requires { ⌜ (0x3fef_ffff_fc00_0000 < magnitude) × (magnitude < 0x3ff0_0000_0400_0000) ⌝ }
-    ensures { λ r. ⌜ ofBits binary64 r ≡ roundRoot binary64 (unitsOf binary64 magnitude * 2 ^ 1074) ⌝ }
+// The significand of the rounded root, by a number's own and its scale.
+fn root_digits(significand: u64, scale: u64) -> u64
+    requires { ⌜ (2 ^ 52 ≤ significand) × (significand < 2 ^ 53) ⌝ }
+    ensures { λ r. ⌜ r ≡ rootDigits significand scale ⌝ }
 {
-    (0x3ff0_0000_0000_0000 + magnitude) >> 1
+    let odd = scale % 2;
+    let square = 0x0010_0000_0000_0000 << odd;
+    // beside a power of 4, such as 1, by less than 2 ^ 26 of the last digits: half way to that power's significand, rounded down
+    if (square < significand + 0x0400_0000) & (significand < square + 0x0400_0000) {
+        return (square + significand) >> 1;
+    }
+    let found = search(significand << (1 + odd));
+    nearest(2 * found.root + found.rest, 2)
 }
 
 // The bits of the rounded root of a finite magnitude above zero.
@@ -77,15 +84,9 @@ fn root_bits(magnitude: u64) -> u64
     requires { ⌜ (0 < magnitude) × (magnitude < 0x7ff0_0000_0000_0000) ⌝ }
     ensures { λ r. ⌜ ofBits binary64 r ≡ roundRoot binary64 (unitsOf binary64 magnitude * 2 ^ 1074) ⌝ }
 {
-    if (0x3fef_ffff_fc00_0000 < magnitude) & (magnitude < 0x3ff0_0000_0400_0000) {
-        return near_one(magnitude);
-    }
     let parts = normalised(magnitude);
     let scale = parts.scale;
-    let significand = parts.significand;
-    let found = search(significand << (1 + scale % 2));
-    let rounded = nearest(2 * found.root + found.rest, 2);
-    ((scale / 2 + 485) << 52) + rounded
+    ((scale / 2 + 485) << 52) + root_digits(parts.significand, scale)
 }
 
 // squareRoot of IEEE 754, clause 5.4.1.

@@ -56,7 +56,8 @@ subnormal b a z e f s =
     (record {
       leading = s .leading;
       digits = s .digits;
-      scale = omega arith;
+      least = omega arith;
+      most = omega arith;
       value =
           mul-assoc a (2 ^ z) (2 ^ (52 - z)) ∙ ap (λ (i : ℕ). a * i) (sym (pow-add 2 z (52 - z)))
           ∙ ap (λ (i : ℕ). a * 2 ^ i) {x = z + (52 - z)} {y = 52} (omega (arith, s .some)) ∙ ap (λ (i : ℕ). i * 2 ^ 52) (e ∙ sym (ap (λ (i : ℕ). fieldUnits binary64 i (b % 2 ^ 52)) f));
