@@ -2,14 +2,6 @@
 pub mod Literals
 pub mod Same
 pub mod Composed
-pub mod Signs
-pub mod QuarterTurns
-pub mod WholeMatrices
 pub mod Emptiness
 pub mod Length
-pub mod Units
-pub mod Cofactors
-pub mod Inverses
-pub mod WholeRanges
-pub mod PlacedRanges
 pub mod Worked

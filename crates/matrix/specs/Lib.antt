@@ -6,4 +6,3 @@ pub mod Transform
 pub mod Inverse
 pub mod Range
 pub mod Calls
-pub mod Placement

@@ -13,8 +13,7 @@ use lib.Ieee.Exact.{HasValue}
 use lib.Ieee.Fits.{down-pos}
 use lib.Ieee.Nearest.{div-same}
 use Rattle.number.specs.Steps.{fieldUnits, unitsOf}
-use Rattle.number.specs.Grid.{wholeNearest, gridLimit, placed}
-use Rattle.number.specs.Whole.{signed}
+use Rattle.number.specs.Grid.{signed, wholeNearest, gridLimit, placed}
 use Rattle.number.specs.declared.grid.Coordinate.{Coordinate}
 use Rattle.number.specs.declared.grid.Coordinate.the-variants.{On, Off}
 

@@ -1,10 +1,4 @@
 -- The laws that the proofs of this crate, and of the crates above it, cite.
-pub mod Integer
-pub mod Value
-pub mod Compare
-pub mod Exact
-pub mod Quotient
-pub mod Formula
 pub mod Nan
 pub mod Tests
 pub mod Magnitude

@@ -6,7 +6,7 @@ use lib.Dec.{leb}
 use lib.Ieee.{Float, nan, inf, fin, binary64, up, down, ofBits, ofInt}
 use Rattle.number.specs.Arithmetic.{_⊗_}
 use Rattle.number.specs.Answer.{Reply, refuse, write, unless, has, leaving}
-use Rattle.number.specs.Whole.{signed}
+use lib.IntN.{ℤ, pos, negℤ}
 use Rattle.number.specs.declared.grid.Coordinate.{Coordinate}
 use Rattle.number.specs.declared.grid.Coordinate.the-variants.{On, Off}
 
@@ -17,6 +17,11 @@ centimetres x = x ⊗ ofBits binary64 0x4059_0000_0000_0000
 -- "then rounded to the nearest whole number, halves away from zero": a / b is a size, b above 0
 abbrev pub wholeNearest : ℕ → ℕ → ℕ
 wholeNearest a b = (2 * a + b) / (2 * b)
+
+-- n with the sign s, negative where s is true; either zero is 0
+abbrev pub signed : Bool → ℕ → ℤ
+signed false n = pos n
+signed true n = negℤ (pos n)
 
 -- "its rounded size exceeds 65,536"
 abbrev pub gridLimit : ℕ

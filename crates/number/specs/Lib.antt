@@ -1,7 +1,6 @@
 -- What the contracts of this crate cite, and what a reader must believe.
 pub mod Arithmetic
 pub mod Root
-pub mod Whole
 pub mod Answer
 pub mod Slice
 pub mod Grid

@@ -9,8 +9,5 @@ pub mod BBoxCalls
 pub mod Volume
 pub mod Frustum
 pub mod FrustumCalls
-pub mod FarmGrid
-pub mod Combining
-pub mod Turns
 pub mod Marked
 pub mod Passes

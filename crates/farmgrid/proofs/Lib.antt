@@ -1,0 +1,43 @@
+-- The laws by which the claims are proved, and the claims.
+-- floats that are whole numbers, and rounded fractions of them
+pub mod Integer
+pub mod Value
+pub mod Compare
+pub mod Exact
+pub mod Quotient
+pub mod Formula
+-- quarter-turn placements
+pub mod Signs
+pub mod QuarterTurns
+pub mod WholeMatrices
+pub mod Units
+pub mod Cofactors
+pub mod Inverses
+pub mod WholeRanges
+pub mod PlacedRanges
+-- points and segments
+pub mod Dot
+pub mod Distance
+pub mod Span
+pub mod EveryPlane
+pub mod ExactPoints
+pub mod Segment
+pub mod MorePlanes
+-- boxes
+pub mod BoxReach
+pub mod BoxPlane
+pub mod BoxInView
+-- the verdicts on records
+pub mod Answers
+pub mod Verdicts
+-- turns
+pub mod TurnedDot
+pub mod Turned
+pub mod BoxTurned
+pub mod Turns
+-- combining
+pub mod Extents
+pub mod CombinedBoxes
+pub mod PlacedCorners
+pub mod CombinedRecords
+pub mod Combining

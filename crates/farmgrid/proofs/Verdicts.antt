@@ -1,0 +1,34 @@
+-- The verdicts on records of the farm grid are exact: what an operation answers is the verdict of its values, which is the exact one for any list of planes.
+use mathlib.Core.Bool.{Bool}
+use mathlib.Core.List.{List}
+use lib.Ieee.Bits.{is-true}
+use Rattle.matrix.specs.Vec.{vec3Of}
+use Rattle.verdict.specs.BBox.{boxOf}
+use Rattle.verdict.specs.BBoxCalls.{flagged}
+use Rattle.verdict.specs.Volume.{planesOf}
+use Rattle.verdict.specs.Frustum.{pointOf, segmentOf, boxOf as inView}
+use Rattle.farmgrid.specs.Verdicts.{PointExact, SegmentExact, BoxExact}
+use Rattle.farmgrid.proofs.Answers.{point-answer, segment-answer, box-answer}
+use Rattle.farmgrid.proofs.Segment.{point-is, segment-is}
+use Rattle.farmgrid.proofs.BoxInView.{box-is}
+
+pub point-exact : PointExact
+point-exact v p Ps A W P = record {
+  verdict = pointOf (planesOf v) (vec3Of p);
+  answered = point-answer v p (W .numbers) (P .numbers);
+  exact = point-is (W .planes) (P .point);
+}
+
+pub segment-exact : SegmentExact
+segment-exact v p q Ps A B W P Q = record {
+  verdict = segmentOf (planesOf v) (vec3Of p) (vec3Of q);
+  answered = segment-answer v p q (W .numbers) (P .numbers) (Q .numbers);
+  exact = segment-is (W .planes) (P .point) (Q .point);
+}
+
+pub box-exact : BoxExact
+box-exact v b Ps B W S C = record {
+  verdict = inView (planesOf v) (boxOf b);
+  answered = box-answer v b (W .numbers) (C .numbers) (is-true (flagged b) (C .flag));
+  exact = box-is (W .planes) S (C .box);
+}

@@ -1,0 +1,8 @@
+-- What is claimed on the farm grid, and what a reader must believe of it.
+pub mod Whole
+pub mod Placement
+pub mod FarmGrid
+pub mod Records
+pub mod Verdicts
+pub mod Turns
+pub mod Combining
