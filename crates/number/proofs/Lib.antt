@@ -16,6 +16,7 @@ pub mod Stores
 pub mod Centimetres
 pub mod Refusals
 pub mod Narrowing
+pub mod Formats
 pub mod Patterns
 pub mod Worked
 pub mod Ways

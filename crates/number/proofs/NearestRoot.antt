@@ -49,12 +49,12 @@ spaced p k m j P h = go (decLt j k)
         inl (m * 2 ^ (j - k), ap (λ (x : ℕ). m * x) split ∙ sym (mul-assoc m (2 ^ (j - k)) (2 ^ k)))
 
 -- what `fits` says of a number above zero
-record Fits (f : Format) (m : ℕ) (e : ℤ) : Type 0 where
-  digits : m < 2 ^ prec f
-  least : down e ≤ 2 ^ low f
-  most : m * up e < 2 ^ suc (emax f) * down e
+pub record Fits (f : Format) (m : ℕ) (e : ℤ) : Type 0 where
+  pub digits : m < 2 ^ prec f
+  pub least : down e ≤ 2 ^ low f
+  pub most : m * up e < 2 ^ suc (emax f) * down e
 
-fits-facts : (f : Format) (s : Bool) (m : ℕ) (e : ℤ) → T (fits f (fin s (suc m) e)) → Fits f (suc m) e
+pub fits-facts : (f : Format) (s : Bool) (m : ℕ) (e : ℤ) → T (fits f (fin s (suc m) e)) → Fits f (suc m) e
 unfolding fits
 fits-facts f s m e t =
     let a : Bool = eqb (suc m % 2) 1 in
@@ -72,7 +72,7 @@ pow-le : (i j : ℕ) → 2 ^ i ≤ 2 ^ j → i ≤ j
 pow-le i j h = le-of-suc-le-suc (lt-of-not-le (λ (g : suc j ≤ i). not-le-of-lt (pow-lt g) h))
 
 -- 2 ^ e, if it is no smaller than 2 ^ -l, is 2 ^ j of those
-in-units : (l : ℕ) (e : ℤ) → down e ≤ 2 ^ l → (j : ℕ) × (up e * 2 ^ l ≡ 2 ^ j * down e)
+pub in-units : (l : ℕ) (e : ℤ) → down e ≤ 2 ^ l → (j : ℕ) × (up e * 2 ^ l ≡ 2 ^ j * down e)
 in-units l (pos k) h = (k + l, sym (mul-one (2 ^ (k + l)) ∙ pow-add 2 k l))
 in-units l (negsuc k) h = (
   l - suc k,
