@@ -10,10 +10,10 @@ const PASSES: usize = 8;
 
 /// Prints a line for each input set.
 pub fn bench(ops: &[Box<dyn Op>]) {
-    println!("{:<22} {:<24} {:>9} {:>9} {:>7}", "function", "inputs", "ours ns", "Rust ns", "ratio");
+    println!("{:<35} {:<24} {:>9} {:>9} {:>7}", "function", "inputs", "ours ns", "Rust ns", "ratio");
     for op in ops {
         if let Some(note) = op.note() {
-            println!("{:<22} {note}", op.name());
+            println!("{:<35} {note}", op.name());
         }
         for mut timing in op.timings() {
             let (mut ours, mut rust) = (Vec::new(), Vec::new());
@@ -22,7 +22,7 @@ pub fn bench(ops: &[Box<dyn Op>]) {
                 rust.push(nanoseconds(&mut timing.rust));
             }
             let (ours, rust) = (median(ours), median(rust));
-            println!("{:<22} {:<24} {ours:>9.2} {rust:>9.2} {:>7.2}", op.name(), timing.set, ours / rust);
+            println!("{:<35} {:<24} {ours:>9.2} {rust:>9.2} {:>7.2}", op.name(), timing.set, ours / rust);
         }
     }
 }

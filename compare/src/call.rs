@@ -2,7 +2,7 @@
 
 use crate::inputs::{Draw, Rng, mixed};
 use crate::judge;
-use crate::lent::{INPUTS, Input, Ins, Lent, Shape, Side};
+use crate::lent::{INPUTS, Input, Ins, Lent, Shape, Side, Single};
 use crate::op::{Op, Timing};
 use crate::trial::{Outcome, Trial};
 use crate::words::{self, Words};
@@ -233,7 +233,11 @@ impl<I: Input> Trial for Call<I> {
             Shape::Verdict => format!("{:#018x}", desk.numbers(INPUTS)[0]),
             _ => list(desk.numbers(INPUTS)),
         };
-        let ins: Vec<String> = (0..self.of.takes.len()).map(|i| list(before.numbers(i))).collect();
+        let given = |(i, &shape): (usize, &Shape)| match shape {
+            Shape::Single => format!("[{}]", words::shown_narrow(Single::at(before.numbers(i)[0]).to_bits().into())),
+            _ => list(before.numbers(i)),
+        };
+        let ins: Vec<String> = self.of.takes.iter().enumerate().map(given).collect();
         let mut text = format!("{}({}; out of {})", self.name(), ins.join(", "), before.len[INPUTS]);
         text += &format!("\n      judge {judge} {}", result(&expected));
         text += &format!("\n      ours  {ours} {}", result(&desk));
@@ -279,7 +283,11 @@ impl<I: Input> Op for Call<I> {
         };
         let recorded = |input: I| {
             let (status, desk) = answered(input);
-            let given: Vec<u64> = (0..self.of.takes.len()).flat_map(|i| desk.numbers(i)).copied().collect();
+            let given = |(i, &shape): (usize, &Shape)| match shape {
+                Shape::Single => vec![words::plain(f64::from(Single::at(desk.numbers(i)[0])).to_bits())],
+                _ => desk.numbers(i).to_vec(),
+            };
+            let given: Vec<u64> = self.of.takes.iter().enumerate().flat_map(given).collect();
             let result: Vec<u64> = match (status, self.of.gives) {
                 (0, Shape::Verdict) => vec![desk.verdict().into()],
                 (0, _) => desk.numbers(INPUTS).iter().map(|&bits| words::plain(bits)).collect(),

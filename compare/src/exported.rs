@@ -18,11 +18,12 @@ macro_rules! of_archive {
 }
 
 /// A call, by its code in the recorded answers, its C name, its parameters
-/// and its result: `gf_x(slice: length, ..; number) -> result { reference }`.
+/// and its result: `gf_x(slice: length, ..; number: type) -> result { reference }`.
 ///
-/// The result is `[f64; length]` for a lent slice, `f64` for a lone number
-/// and `bool` for a yes or no. The reference sees slices of the right
-/// lengths, as arrays, and gives the result or the number of a refusal.
+/// A lone number in is an `f64` or an `f32`. The result is `[f64; length]`
+/// for a lent slice, `f64` for a lone number and `bool` for a yes or no. The
+/// reference sees slices of the right lengths, as arrays, and gives the result
+/// or the number of a refusal.
 macro_rules! call {
     ($code:literal $name:ident($($parameters:tt)*) -> [f64; $m:literal] $body:block) => {
         call!(@ $code $name [$($parameters)*] [f64; $m] $body out (*mut f64, usize) (out.at, out.len))
@@ -33,15 +34,15 @@ macro_rules! call {
     ($code:literal $name:ident($($parameters:tt)*) -> bool $body:block) => {
         call!(@ $code $name [$($parameters)*] bool $body out (*mut u32) (out.at.cast::<u32>()))
     };
-    (@ $code:literal $name:ident [$($in:ident: $n:literal),* $(; $number:ident)?] $answer:ty $body:block
+    (@ $code:literal $name:ident [$($in:ident: $n:literal),* $(; $number:ident: $lone:ty)?] $answer:ty $body:block
         $out:ident ($($c_type:ty),*) ($($c_argument:expr),*)) => {{
         use $crate::call::{Call, Exported};
         use $crate::lent::{Answer, Ins, Lent, Pointer, Shape, Side};
 
-        type Ours = unsafe extern "C" fn($($in: *const f64, _: usize,)* $($number: f64,)? $($c_type),*) -> u32;
-        type Rust = fn($($in: &[f64],)* $($number: f64,)? &mut <$answer as Answer>::Lent) -> u32;
+        type Ours = unsafe extern "C" fn($($in: *const f64, _: usize,)* $($number: $lone,)? $($c_type),*) -> u32;
+        type Rust = fn($($in: &[f64],)* $($number: $lone,)? &mut <$answer as Answer>::Lent) -> u32;
 
-        fn rust($($in: &[f64],)* $($number: f64,)? out: &mut <$answer as Answer>::Lent) -> u32 {
+        fn rust($($in: &[f64],)* $($number: $lone,)? out: &mut <$answer as Answer>::Lent) -> u32 {
             $(let Ok($in) = <&[f64; $n]>::try_from($in) else {
                 return $crate::judge::WRONG_INPUT;
             };)*
@@ -59,29 +60,27 @@ macro_rules! call {
         }
 
         let ours: Option<Ours> =
-            of_archive!($name: fn($($in: *const f64, _: usize,)* $($number: f64,)? $(_: $c_type),*) -> u32);
+            of_archive!($name: fn($($in: *const f64, _: usize,)* $($number: $lone,)? $(_: $c_type),*) -> u32);
         // What is lent is as long as it says, and is not lent twice.
         let ours = ours.map(|f| -> Box<dyn Side> {
             Box::new(Pointer(f, |f: Ours, ins: &Ins, $out: Lent| unsafe {
                 let [$($in,)* $($number,)? ..] = *ins;
-                f($($in.at.cast_const(), $in.len,)* $(*$number.at,)? $($c_argument),*)
+                f($($in.at.cast_const(), $in.len,)* $(<$lone as $crate::lent::Lone>::passed($number),)? $($c_argument),*)
             }))
         });
         let rust = Box::new(Pointer(rust as Rust, |f: Rust, ins: &Ins, out: Lent| unsafe {
             let [$($in,)* $($number,)? ..] = *ins;
-            f($($in.slice(),)* $(*$number.at,)? <$answer as Answer>::lent(out))
+            f($($in.slice(),)* $(<$lone as $crate::lent::Lone>::passed($number),)? <$answer as Answer>::lent(out))
         }));
-        Call::<($([f64; $n],)* $(call!(@f64 $number),)?)>::new(Exported {
+        Call::<($([f64; $n],)* $(<$lone as $crate::lent::Lone>::Input,)?)>::new(Exported {
             name: stringify!($name),
             code: $code,
-            takes: &[$(Shape::Slice($n),)* $(call!(@lone $number),)?],
+            takes: &[$(Shape::Slice($n),)* $(<$lone as $crate::lent::Lone>::SHAPE,)?],
             gives: <$answer as Answer>::SHAPE,
             ours,
             rust,
         })
     }};
-    (@f64 $number:ident) => { f64 };
-    (@lone $number:ident) => { Shape::Number };
 }
 
 pub(crate) use {call, of_archive};

@@ -10,6 +10,8 @@ pub enum Shape {
     Slice(usize),
     /// A lone number, which has no length to be wrong.
     Number,
+    /// A lone f32, in the first half of a word.
+    Single,
     /// A yes or no, in the first half of a word.
     Verdict,
 }
@@ -18,7 +20,7 @@ impl Shape {
     pub fn len(self) -> usize {
         match self {
             Shape::Slice(len) => len,
-            Shape::Number | Shape::Verdict => 1,
+            Shape::Number | Shape::Single | Shape::Verdict => 1,
         }
     }
 }
@@ -43,6 +45,32 @@ impl Lent {
 
     pub unsafe fn slice<'a>(self) -> &'a [f64] {
         unsafe { slice::from_raw_parts(self.at, self.len) }
+    }
+}
+
+/// A lone number in, which is passed by itself.
+pub trait Lone: Copy {
+    type Input: Record;
+    const SHAPE: Shape;
+
+    unsafe fn passed(lent: Lent) -> Self;
+}
+
+impl Lone for f64 {
+    type Input = f64;
+    const SHAPE: Shape = Shape::Number;
+
+    unsafe fn passed(lent: Lent) -> f64 {
+        unsafe { *lent.at }
+    }
+}
+
+impl Lone for f32 {
+    type Input = Single;
+    const SHAPE: Shape = Shape::Single;
+
+    unsafe fn passed(lent: Lent) -> f32 {
+        unsafe { *lent.at.cast() }
     }
 }
 
@@ -147,7 +175,8 @@ pub trait Input: Copy + Send + Sync + 'static {
     fn records(&self) -> [&[f64]; INPUTS];
 }
 
-trait Record: Copy + Send + Sync + 'static {
+/// A record or a lone number of a call's inputs.
+pub trait Record: Copy + Send + Sync + 'static {
     fn numbers(&self) -> &[f64];
 }
 
@@ -160,6 +189,31 @@ impl<const N: usize> Record for [f64; N] {
 impl Record for f64 {
     fn numbers(&self) -> &[f64] {
         slice::from_ref(self)
+    }
+}
+
+/// An f32 among the inputs, in the first half of a word, so that a NaN keeps
+/// its bits.
+#[derive(Clone, Copy)]
+pub struct Single(f64);
+
+impl Single {
+    pub fn at(word: u64) -> f32 {
+        let [a, b, c, d, ..] = word.to_ne_bytes();
+        f32::from_ne_bytes([a, b, c, d])
+    }
+}
+
+impl From<f32> for Single {
+    fn from(x: f32) -> Single {
+        let [a, b, c, d] = x.to_ne_bytes();
+        Single(f64::from_ne_bytes([a, b, c, d, 0, 0, 0, 0]))
+    }
+}
+
+impl Record for Single {
+    fn numbers(&self) -> &[f64] {
+        slice::from_ref(&self.0)
     }
 }
 

@@ -37,15 +37,16 @@ mod tests {
                 })
                 .collect();
             let statuses: BTreeSet<u64> = seen.iter().map(|&(status, _)| status).collect();
-            let refusal = match op.code() {
-                7 => Some(7),
-                201..=205 | 216 | 221 | 222 => Some(3),
-                103 | 211 => Some(4),
-                214 | 215 => Some(5),
-                217 => Some(6),
-                _ => None,
+            let refusals: &[u64] = match op.code() {
+                7 => &[7],
+                201..=205 | 216 | 221 | 222 => &[3],
+                103 | 211 => &[4],
+                214 | 215 => &[5],
+                217 => &[6],
+                223 => &[4, 6, 8],
+                _ => &[],
             };
-            assert_eq!(statuses, [0].into_iter().chain(refusal).collect(), "{}", op.name());
+            assert_eq!(statuses, refusals.iter().copied().chain([0]).collect(), "{}", op.name());
             if matches!(op.code(), 109 | 110 | 210 | 218..=222) {
                 assert!(seen.contains(&(0, Some(0))) && seen.contains(&(0, Some(1))), "{}", op.name());
             }

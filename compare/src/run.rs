@@ -18,7 +18,7 @@ pub fn run<'a>(trials: impl Iterator<Item = &'a dyn Trial>, count: u64, seed: u6
         let note = trial.note().map_or(String::new(), |note| format!("   {note}"));
         let cases = trial.cases(count);
         if cases == 0 {
-            println!("{:<22}{note}", trial.name());
+            println!("{:<35}{note}", trial.name());
             continue;
         }
         let start = Instant::now();
@@ -28,7 +28,7 @@ pub fn run<'a>(trials: impl Iterator<Item = &'a dyn Trial>, count: u64, seed: u6
             .map(|(name, n)| format!("{name} {n}"))
             .collect();
         println!(
-            "{:<22} {:>11} cases {:>11} differences   {:.1} s   agreed: {}{note}",
+            "{:<35} {:>11} cases {:>11} differences   {:.1} s   agreed: {}{note}",
             trial.name(),
             tally.cases,
             tally.differences,

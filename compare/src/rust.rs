@@ -2,7 +2,7 @@
 
 use crate::judge::NO_SUCH_VALUE;
 use openusd::gf::{
-    BBox3d, Frustum, FrustumPlanes, Mat4d, Plane, Projection, ProjectionParams, Range1d, Range2d, Range3d, Ray,
+    BBox3d, Camera, Frustum, FrustumPlanes, Mat4d, Plane, Projection, ProjectionParams, Range1d, Range2d, Range3d, Ray,
     Rotation, Vec2d, Vec3d, Vec4d,
 };
 
@@ -102,9 +102,33 @@ pub fn projection(&[kind, left, right, bottom, top, near, far]: &[f64; 7]) -> Re
     Ok(ProjectionParams { projection, left, right, bottom, top, near, far })
 }
 
+/// The number of a kind of projection.
+fn of_kind(kind: Projection) -> f64 {
+    if kind == Projection::Orthographic { 1.0 } else { 0.0 }
+}
+
 pub fn of_projection(params: ProjectionParams) -> [f64; 7] {
-    let kind = if params.projection == Projection::Orthographic { 1.0 } else { 0.0 };
+    let kind = of_kind(params.projection);
     [kind, params.left, params.right, params.bottom, params.top, params.near, params.far]
+}
+
+/// Paper 02's record of a camera: where it sits, its kind, its lens and film
+/// back, its clipping range.
+pub fn of_camera(camera: &Camera) -> [f64; 24] {
+    let singles = [
+        camera.focal_length,
+        camera.horizontal_aperture,
+        camera.vertical_aperture,
+        camera.horizontal_aperture_offset,
+        camera.vertical_aperture_offset,
+        camera.clipping_range.min(),
+        camera.clipping_range.max(),
+    ];
+    let mut numbers = [0.0; 24];
+    numbers[..16].copy_from_slice(&camera.transform.0);
+    numbers[16] = of_kind(camera.projection);
+    numbers[17..].copy_from_slice(&singles.map(f64::from));
+    numbers
 }
 
 /// Any frustum. The shim's methods do not look at it.

@@ -7,7 +7,7 @@ use std::ops::Range;
 pub struct Outcome;
 
 impl Outcome {
-    pub const NAMES: [&'static str; 15] = [
+    pub const NAMES: [&'static str; 16] = [
         "done",
         "refused 1",
         "refused 2",
@@ -16,6 +16,7 @@ impl Outcome {
         "refused 5",
         "refused 6",
         "refused 7",
+        "refused 8",
         "no",
         "yes",
         "zero",
@@ -24,10 +25,10 @@ impl Outcome {
         "infinite",
         "NaN",
     ];
-    pub const NO: usize = 8;
-    pub const YES: usize = 9;
+    pub const NO: usize = 9;
+    pub const YES: usize = 10;
     /// The first of the kinds of number.
-    pub const NUMBER: usize = 10;
+    pub const NUMBER: usize = 11;
 }
 
 /// How many differing cases are described.

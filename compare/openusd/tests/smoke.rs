@@ -1,6 +1,6 @@
 //! That the assembled gf answers, and that its shim changes nothing else.
 
-use openusd::gf::{BBox3d, Frustum, FrustumPlanes, Mat4d, Plane, Range3d, Ray, Vec2d, Vec3d, vec3d};
+use openusd::gf::{BBox3d, Camera, Frustum, FrustumPlanes, Mat4d, Plane, Range3d, Ray, Vec2d, Vec3d, vec3d};
 
 /// Planes as they are given, without being made unit length.
 fn view(planes: [([f64; 3], f64); 6]) -> FrustumPlanes {
@@ -64,6 +64,17 @@ fn the_inverse_refuses_at_its_threshold() {
     assert_eq!(first(1e-12), None);
     assert_eq!(first(2e-12).map(|m| m.0[0]), Some(1.0 / 2e-12));
     assert_eq!(Mat4d::IDENTITY * Mat4d::IDENTITY, Mat4d::IDENTITY);
+}
+
+#[test]
+fn a_camera_is_set_from_two_matrices() {
+    let mut camera = Camera::default();
+    let projection = Mat4d::perspective(-0.5, 0.5, -0.25, 0.25, 1.0, 3.0);
+    assert!(camera.set_from_view_and_projection(Mat4d::translation(vec3d(1.0, 2.0, 3.0)), projection, 32.0));
+    assert_eq!(camera.transform, Mat4d::translation(vec3d(-1.0, -2.0, -3.0)));
+    assert_eq!([camera.horizontal_aperture, camera.vertical_aperture], [32.0, 16.0]);
+    assert_eq!([camera.clipping_range.min(), camera.clipping_range.max()], [1.0, 3.0]);
+    assert!(!camera.set_from_view_and_projection(Mat4d([0.0; 16]), projection, 32.0));
 }
 
 #[test]

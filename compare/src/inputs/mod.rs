@@ -1,12 +1,14 @@
 //! Inputs: fixed lists, and draws from a generator. Here and in `number.rs`
 //! numbers are given by their bits, those of an f32 in the low half.
 
+mod camera;
 mod farm;
 mod number;
 mod solid;
 mod space;
 mod view;
 
+pub use camera::*;
 pub use farm::*;
 pub use number::*;
 pub use solid::*;

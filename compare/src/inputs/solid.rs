@@ -353,10 +353,15 @@ pub fn ordinary_projection(rng: &mut Rng) -> Projection {
     [rng.below(2) as f64, -x, x * rng.between(0.9, 1.1), -y, y, near, near + rng.between(10.0, 1000.0)]
 }
 
+/// The matrix of a projection, and of none the identity.
+pub fn projected(record: &Projection) -> Matrix {
+    rust::projection(record).map_or(IDENTITY, |params| params.matrix().0)
+}
+
 /// A matrix that is a projection, or one but for what is tested.
 pub fn projection_matrix(rng: &mut Rng) -> Matrix {
     let record = if rng.once_in(2) { ordinary_projection(rng) } else { projection(rng) };
-    let mut m = rust::projection(&record).map_or(IDENTITY, |params| params.matrix().0);
+    let mut m = projected(&record);
     match rng.below(8) {
         0 if rng.once_in(2) => {
             let side = rng.pick(&[1.0, -1.0]) * 1e-6 + 1e-12 * rng.between(-1.5, 1.5);

@@ -1,7 +1,6 @@
 //! Points, matrices and ranges.
 
 use super::*;
-use crate::rust;
 use std::array;
 
 pub type Point = [f64; 3];
@@ -175,10 +174,7 @@ pub fn matrix(rng: &mut Rng) -> Matrix {
         }
         9..12 => near_singular(rng),
         12 => singular(rng),
-        13 => {
-            let record = projection(rng);
-            rust::projection(&record).map_or(IDENTITY, |params| params.matrix().0)
-        }
+        13 => projected(&projection(rng)),
         // A determinant that is infinite, zero or NaN by its size alone.
         14 => {
             let d = array::from_fn(|_| signed_pick(rng, &[1e200, 1e150, 1e-200, 1e103, 1.0, 1.0, f64::INFINITY]));

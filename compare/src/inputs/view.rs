@@ -249,7 +249,7 @@ pub fn volume_and_box(rng: &mut Rng) -> (Volume, Boxed) {
 /// A box and a matrix into clip space, whose sides the box often touches.
 pub fn box_and_view(rng: &mut Rng) -> (Boxed, Matrix) {
     let view_projection = |rng: &mut Rng| {
-        let projected = rust::projection(&ordinary_projection(rng)).map_or(IDENTITY, |params| params.matrix().0);
+        let projected = projected(&ordinary_projection(rng));
         if rng.once_in(2) {
             return projected;
         }

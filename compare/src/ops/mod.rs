@@ -2,6 +2,7 @@
 //! codes.
 
 mod bbox;
+mod camera;
 mod matrix;
 mod number;
 mod plane;
@@ -22,6 +23,7 @@ pub fn all() -> Vec<Box<dyn Op>> {
         ray::all(),
         projection::all(),
         verdict::all(),
+        camera::all(),
     ];
     files.into_iter().flatten().collect()
 }
@@ -31,6 +33,6 @@ mod tests {
     #[test]
     fn codes_are_in_the_order_of_the_functions() {
         let codes: Vec<u64> = super::all().iter().map(|op| op.code()).collect();
-        assert_eq!(codes, (1..=7).chain(101..=116).chain(201..=222).collect::<Vec<u64>>());
+        assert_eq!(codes, (1..=7).chain(101..=116).chain(201..=223).collect::<Vec<u64>>());
     }
 }

@@ -50,7 +50,7 @@ fn fixed() -> Vec<Plane> {
 
 fn new() -> Box<dyn Op> {
     let fixed = fixed().into_iter().map(|[x, y, z, distance]| ([x, y, z], distance)).collect();
-    call!(206 gf_plane_new(normal: 3; distance) -> [f64; 4] { Ok(of_plane(gf::Plane::new(point(normal), distance))) })
+    call!(206 gf_plane_new(normal: 3; distance: f64) -> [f64; 4] { Ok(of_plane(gf::Plane::new(point(normal), distance))) })
         .fixed(fixed)
         .drawn(|_, rng| (inputs::normal(rng), inputs::distance(rng)))
         .timed("ordinary", |_, rng| (inputs::ordinary_point(rng), rng.between(-9.0, 9.0)))

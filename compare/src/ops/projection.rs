@@ -33,8 +33,7 @@ fn build() -> Box<dyn Op> {
 }
 
 fn recover() -> Box<dyn Op> {
-    let built = |record: Projection| projection(&record).map_or(IDENTITY, |params| params.matrix().0);
-    let kinds = [built(SEEN), built(with(SEEN, &[(0, 1.0)]))];
+    let kinds = [inputs::projected(&SEEN), inputs::projected(&with(SEEN, &[(0, 1.0)]))];
     let mut fixed: Vec<Matrix> = kinds.into();
     fixed.extend([IDENTITY, [0.0; 16], [NAN; 16], diagonal([1.0, 1.0, -1.0, 1.0])]);
     for m in kinds {
@@ -58,9 +57,6 @@ fn recover() -> Box<dyn Op> {
     })
     .fixed(fixed.into_iter().map(|m| (m,)).collect())
     .drawn(|_, rng| (inputs::projection_matrix(rng),))
-    .timed("ordinary", |_, rng| {
-        let record = inputs::ordinary_projection(rng);
-        (projection(&record).map_or(IDENTITY, |params| params.matrix().0),)
-    })
+    .timed("ordinary", |_, rng| (inputs::projected(&inputs::ordinary_projection(rng)),))
     .op()
 }

@@ -16,7 +16,7 @@ const FAR: f64 = f64::INFINITY;
 fn ray_point() -> Box<dyn Op> {
     let oblique = ray_of([1.0, 2.0, 3.0], [0.1, -0.7, 0.3]);
     let distances = [0.0, -0.0, 1.0, 3.0, -2.0, 1e-310, 1e308, FAR, NAN];
-    call!(212 gf_ray_point(given: 6; distance) -> [f64; 3] { Ok(ray(given).point(distance).into()) })
+    call!(212 gf_ray_point(given: 6; distance: f64) -> [f64; 3] { Ok(ray(given).point(distance).into()) })
         .fixed(distances.map(|distance| (oblique, distance)).into())
         .drawn(|_, rng| (inputs::ray(rng), inputs::distance(rng)))
         .timed("ordinary", |_, rng| (inputs::ordinary_ray(rng), rng.between(0.0, 9.0)))

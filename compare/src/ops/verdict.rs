@@ -273,6 +273,5 @@ fn of_view_volume() -> Box<dyn Op> {
 /// From the world into a camera's clip space.
 fn perspective_view(rng: &mut inputs::Rng) -> Matrix {
     let record = with(inputs::ordinary_projection(rng), &[(0, 0.0)]);
-    let projected = crate::rust::projection(&record).map_or(IDENTITY, |params| params.matrix().0);
-    (matrix(&inputs::placement(rng)) * matrix(&projected)).0
+    (matrix(&inputs::placement(rng)) * matrix(&inputs::projected(&record))).0
 }

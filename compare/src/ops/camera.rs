@@ -1,0 +1,164 @@
+//! Cameras.
+
+use crate::exported::{call, of_archive};
+use crate::inputs::{self, IDENTITY, Matrix, Projection, Rng, diagonal, with};
+use crate::judge::{NO_PROJECTION, NOT_FINITE, SINGULAR};
+use crate::lent::Single;
+use crate::op::Op;
+use crate::rust::{matrix, of_camera};
+use openusd::gf;
+
+pub fn all() -> Vec<Box<dyn Op>> {
+    vec![set_from_view_and_projection()]
+}
+
+/// A view, a projection and a focal length.
+type Given = (Matrix, Matrix, f32);
+
+const NAN: f64 = f64::NAN;
+const FAR: f64 = f64::INFINITY;
+const SEEN: Projection = [0.0, -0.5, 0.7, -0.25, 0.3, 1.0, 100.0];
+
+/// A view that is turned by a quarter and moved.
+const VIEW: Matrix = [0.0, 1.0, 0.0, 0.0, -1.0, 0.0, 0.0, 0.0, 0.0, 0.0, 1.0, 0.0, 5.0, -6.0, 7.0, 1.0];
+
+fn set_from_view_and_projection() -> Box<dyn Op> {
+    call!(223 gf_camera_set_from_view_and_projection(view: 16, projection: 16; focal_length: f32) -> [f64; 24] {
+        let mut camera = gf::Camera::default();
+        if !camera.set_from_view_and_projection(matrix(view), matrix(projection), focal_length) {
+            return Err(refusal(view, projection));
+        }
+        let numbers = of_camera(&camera);
+        if numbers.iter().all(|x| x.is_finite()) { Ok(numbers) } else { Err(NOT_FINITE) }
+    })
+    .fixed(fixed().into_iter().map(|(_, given)| lent(given)).collect())
+    .drawn(|_, rng| lent(inputs::camera(rng)))
+    .timed("perspective", |_, rng| lent(ordinary(rng, 0.0)))
+    .timed("orthographic", |_, rng| lent(ordinary(rng, 1.0)))
+    .op()
+}
+
+/// Why the Rust sets no camera.
+#[cold]
+fn refusal(view: &Matrix, projection: &Matrix) -> u32 {
+    if matrix(view).inverse().is_none() {
+        SINGULAR
+    } else if gf::ProjectionParams::from_matrix(matrix(projection)).is_none() {
+        NO_PROJECTION
+    } else {
+        NOT_FINITE
+    }
+}
+
+fn lent((view, projection, focal_length): Given) -> (Matrix, Matrix, Single) {
+    (view, projection, focal_length.into())
+}
+
+fn ordinary(rng: &mut Rng, kind: f64) -> Given {
+    let record = with(inputs::ordinary_projection(rng), &[(0, kind)]);
+    (inputs::rigid_placement(rng), inputs::projected(&record), inputs::lens(rng))
+}
+
+/// What is always tried, with what is to be answered: 0 or a refusal.
+fn fixed() -> Vec<(u32, Given)> {
+    let kinds = [SEEN, with(SEEN, &[(0, 1.0)])];
+    let [perspective, orthographic] = kinds.map(|record| inputs::projected(&record));
+    let up = |x: f64| f64::from_bits(x.to_bits() + 1);
+    let mut fixed = Vec::new();
+
+    for m in [perspective, orthographic] {
+        // Focal lengths.
+        let lengths = [50.0, 35.7, 0.0, -0.0, -50.0, 1e-45, f32::MIN_POSITIVE, 1e30];
+        fixed.extend(lengths.map(|x| (0, (VIEW, m, x))));
+        let payloads = [0x7f80_0001, 0xffc1_2345, 0x7fff_ffff].map(f32::from_bits);
+        let none = [f32::INFINITY, f32::NEG_INFINITY, f32::NAN].into_iter().chain(payloads);
+        fixed.extend(none.map(|x| (NOT_FINITE, (VIEW, m, x))));
+        // Views: scaled, turned over, with a w; about as small as counts.
+        let first = |x: f64| with(IDENTITY, &[(0, x)]);
+        let good = [IDENTITY, diagonal([3.0, 5.0, 7.0, 1.0]), first(-1.0), with(VIEW, &[(3, 0.5), (15, 2.0)])];
+        fixed.extend(good.map(|view| (0, (view, m, 50.0))));
+        fixed.extend([first(up(1e-12)), first(-2e-12), first(1e300)].map(|view| (0, (view, m, 50.0))));
+        let singular =
+            [[0.0; 16], [NAN; 16], first(1e-12), first(-1e-12), first(5e-13), first(1e-13), with(VIEW, &[(13, NAN)])];
+        fixed.extend(singular.map(|view| (SINGULAR, (view, m, 50.0))));
+        // Views whose determinant or whose inverse is not finite.
+        let overflowing = [
+            diagonal([1e200, 1e200, 1e200, 1.0]),
+            diagonal([1e200, -1e200, 1.0, 1.0]),
+            diagonal([1e-309, 1e154, 1e154, 1.0]),
+            with(first(1e-10), &[(12, 1e300)]),
+        ];
+        fixed.extend(overflowing.map(|view| (NOT_FINITE, (view, m, 50.0))));
+        // Damaged by what is let pass, and by more.
+        let passing = [(1, 1e-6), (15, m[15] - 9e-7), (11, m[11] + 9e-7), (8, m[8] + 5e-7)];
+        fixed.extend(passing.map(|entry| (0, (VIEW, with(m, &[entry]), 50.0))));
+        let damaged =
+            [(1, 1.1e-6), (15, 0.5), (11, m[11] - 1.1e-6), (11, -0.5), (2, FAR), (3, NAN), (0, 0.0), (14, FAR)];
+        fixed.extend(damaged.map(|entry| (NO_PROJECTION, (VIEW, with(m, &[entry]), 50.0))));
+        // The earliest of two refusals.
+        fixed.extend([
+            (SINGULAR, (first(1e-12), with(m, &[(1, 2e-6)]), 50.0)),
+            (SINGULAR, (first(1e-12), m, f32::NAN)),
+            (NO_PROJECTION, (VIEW, with(m, &[(1, 2e-6)]), f32::NAN)),
+            (NO_PROJECTION, (overflowing[0], with(m, &[(1, 2e-6)]), 50.0)),
+        ]);
+    }
+
+    for kind in [0.0, 1.0] {
+        let set = |status: u32, entries: &[(usize, f64)], focal_length: f32| {
+            (status, (VIEW, inputs::projected(&with(with(SEEN, &[(0, kind)]), entries)), focal_length))
+        };
+        // Near above far, behind, on both sides; a window turned over.
+        fixed.extend([
+            set(0, &[(5, 100.0), (6, 1.0)], 50.0),
+            set(0, &[(5, -2.0)], 50.0),
+            set(0, &[(5, -2.0), (6, -1.0)], 50.0),
+            set(0, &[(1, 0.7), (2, -0.5)], 50.0),
+        ]);
+        // One number alone past the last f32: a size, an offset, a distance.
+        let last = f64::from(f32::MAX);
+        let size = last / if kind == 0.0 { 50.0 } else { 10.0 };
+        for axis in [1, 3] {
+            fixed.extend([
+                set(0, &[(axis, -0.4999 * size), (axis + 1, 0.4999 * size)], 50.0),
+                set(NOT_FINITE, &[(axis, -0.5001 * size), (axis + 1, 0.5001 * size)], 50.0),
+                set(0, &[(axis, 0.9 * size), (axis + 1, 1.0999 * size)], 50.0),
+                set(NOT_FINITE, &[(axis, 0.9 * size), (axis + 1, 1.1001 * size)], 50.0),
+                set(0, &[(axis, -1e-41), (axis + 1, 1e-41)], 1.0),
+            ]);
+        }
+        fixed.extend([
+            set(0, &[(5, 0.9999 * last), (6, 0.5 * last)], 50.0),
+            set(NOT_FINITE, &[(5, 1.0001 * last), (6, 0.5 * last)], 50.0),
+            set(NOT_FINITE, &[(6, -1.0001 * last), (5, 0.5 * last)], 50.0),
+            set(0, &[(5, 1e-42), (6, 3e-42)], 50.0),
+        ]);
+    }
+
+    // A far distance that is what is meant, bit for bit: it is twice the last
+    // row's entry here. From the middle on the last f32 is past.
+    let far = |x: f64| (VIEW, with(perspective, &[(10, -1.5), (14, -0.5 * x)]), 50.0);
+    let middle = f64::from_bits(inputs::tie(f32::MAX.to_bits().into()));
+    let down = |x: f64| f64::from_bits(x.to_bits() - 1);
+    fixed.extend([(0, far(f32::MAX.into())), (0, far(down(middle))), (0, far(-down(middle)))]);
+    fixed.extend([middle, -middle, up(middle)].map(|x| (NOT_FINITE, far(x))));
+    fixed
+}
+
+#[cfg(test)]
+mod tests {
+    use super::*;
+
+    #[test]
+    fn fixed_inputs_are_answered_as_they_are_meant() {
+        let recorded = set_from_view_and_projection().vectors();
+        for (words, (status, (view, projection, focal_length))) in recorded.iter().zip(fixed()) {
+            let given = &words[1..1 + words[0] as usize];
+            let answered = words[1 + given.len()];
+            assert_eq!(answered, status.into(), "{view:?} {projection:?} {focal_length:e}");
+            let widened = if focal_length.is_nan() { f64::NAN } else { focal_length.into() };
+            assert_eq!((given.len(), given[32]), (33, widened.to_bits()), "{focal_length:e}");
+        }
+        assert!(recorded.len() > fixed().len());
+    }
+}
