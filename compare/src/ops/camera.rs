@@ -61,88 +61,137 @@ fn ordinary(rng: &mut Rng, kind: f64) -> Given {
 
 /// What is always tried, with what is to be answered: 0 or a refusal.
 fn fixed() -> Vec<(u32, Given)> {
-    let kinds = [SEEN, with(SEEN, &[(0, 1.0)])];
-    let [perspective, orthographic] = kinds.map(|record| inputs::projected(&record));
-    let up = |x: f64| f64::from_bits(x.to_bits() + 1);
+    let kinds = [0.0, 1.0];
+    let damages = kinds.into_iter().flat_map(|kind| damages(inputs::projected(&with(SEEN, &[(0, kind)]))));
+    damages.chain(kinds.into_iter().flat_map(volumes)).chain(narrowed()).collect()
+}
+
+/// This projection with focal lengths of every kind, with views, and damaged.
+fn damages(m: Matrix) -> Vec<(u32, Given)> {
+    let first = |x: f64| with(IDENTITY, &[(0, x)]);
     let mut fixed = Vec::new();
+    let lengths = [50.0, 35.7, 0.0, -0.0, -50.0, 1e-45, f32::MIN_POSITIVE, 1e30];
+    fixed.extend(lengths.map(|x| (0, (VIEW, m, x))));
+    let payloads = [0x7f80_0001, 0xffc1_2345, 0x7fff_ffff].map(f32::from_bits);
+    let none = [f32::INFINITY, f32::NEG_INFINITY, f32::NAN].into_iter().chain(payloads);
+    fixed.extend(none.map(|x| (NOT_FINITE, (VIEW, m, x))));
+    // Views: scaled, turned over, with a w; about as small as counts.
+    let good = [
+        IDENTITY,
+        diagonal([3.0, 5.0, 7.0, 1.0]),
+        first(-1.0),
+        with(VIEW, &[(3, 0.5), (15, 2.0)]),
+        first(up(1e-12)),
+        first(-2e-12),
+        first(1e300),
+    ];
+    fixed.extend(good.map(|view| (0, (view, m, 50.0))));
+    let singular =
+        [[0.0; 16], [NAN; 16], first(1e-12), first(-1e-12), first(5e-13), first(1e-13), with(VIEW, &[(13, NAN)])];
+    fixed.extend(singular.map(|view| (SINGULAR, (view, m, 50.0))));
+    // Views whose determinant or whose inverse is not finite.
+    let overflowing = [
+        diagonal([1e200, 1e200, 1e200, 1.0]),
+        diagonal([1e200, -1e200, 1.0, 1.0]),
+        diagonal([1e-309, 1e154, 1e154, 1.0]),
+        with(first(1e-10), &[(12, 1e300)]),
+    ];
+    fixed.extend(overflowing.map(|view| (NOT_FINITE, (view, m, 50.0))));
+    // Damaged by what is let pass, and by more.
+    let passing = [(1, 1e-6), (15, m[15] - 9e-7), (11, m[11] + 9e-7), (8, m[8] + 5e-7)];
+    fixed.extend(passing.map(|entry| (0, (VIEW, with(m, &[entry]), 50.0))));
+    let failing = [(1, 1.1e-6), (15, 0.5), (11, m[11] - 1.1e-6), (11, -0.5), (11, 1e-6), (11, -1e-6)];
+    let broken = [(2, FAR), (3, NAN), (0, 0.0), (14, FAR)];
+    fixed.extend(failing.into_iter().chain(broken).map(|entry| (NO_PROJECTION, (VIEW, with(m, &[entry]), 50.0))));
+    // The earliest of two refusals.
+    let bent = with(m, &[(1, 2e-6)]);
+    fixed.extend([
+        (SINGULAR, (first(1e-12), bent, 50.0)),
+        (SINGULAR, (first(1e-12), m, f32::NAN)),
+        (NO_PROJECTION, (VIEW, bent, f32::NAN)),
+        (NO_PROJECTION, (overflowing[0], bent, 50.0)),
+    ]);
+    fixed
+}
 
-    for m in [perspective, orthographic] {
-        // Focal lengths.
-        let lengths = [50.0, 35.7, 0.0, -0.0, -50.0, 1e-45, f32::MIN_POSITIVE, 1e30];
-        fixed.extend(lengths.map(|x| (0, (VIEW, m, x))));
-        let payloads = [0x7f80_0001, 0xffc1_2345, 0x7fff_ffff].map(f32::from_bits);
-        let none = [f32::INFINITY, f32::NEG_INFINITY, f32::NAN].into_iter().chain(payloads);
-        fixed.extend(none.map(|x| (NOT_FINITE, (VIEW, m, x))));
-        // Views: scaled, turned over, with a w; about as small as counts.
-        let first = |x: f64| with(IDENTITY, &[(0, x)]);
-        let good = [IDENTITY, diagonal([3.0, 5.0, 7.0, 1.0]), first(-1.0), with(VIEW, &[(3, 0.5), (15, 2.0)])];
-        fixed.extend(good.map(|view| (0, (view, m, 50.0))));
-        fixed.extend([first(up(1e-12)), first(-2e-12), first(1e300)].map(|view| (0, (view, m, 50.0))));
-        let singular =
-            [[0.0; 16], [NAN; 16], first(1e-12), first(-1e-12), first(5e-13), first(1e-13), with(VIEW, &[(13, NAN)])];
-        fixed.extend(singular.map(|view| (SINGULAR, (view, m, 50.0))));
-        // Views whose determinant or whose inverse is not finite.
-        let overflowing = [
-            diagonal([1e200, 1e200, 1e200, 1.0]),
-            diagonal([1e200, -1e200, 1.0, 1.0]),
-            diagonal([1e-309, 1e154, 1e154, 1.0]),
-            with(first(1e-10), &[(12, 1e300)]),
-        ];
-        fixed.extend(overflowing.map(|view| (NOT_FINITE, (view, m, 50.0))));
-        // Damaged by what is let pass, and by more.
-        let passing = [(1, 1e-6), (15, m[15] - 9e-7), (11, m[11] + 9e-7), (8, m[8] + 5e-7)];
-        fixed.extend(passing.map(|entry| (0, (VIEW, with(m, &[entry]), 50.0))));
-        let damaged =
-            [(1, 1.1e-6), (15, 0.5), (11, m[11] - 1.1e-6), (11, -0.5), (2, FAR), (3, NAN), (0, 0.0), (14, FAR)];
-        fixed.extend(damaged.map(|entry| (NO_PROJECTION, (VIEW, with(m, &[entry]), 50.0))));
-        // The earliest of two refusals.
+fn set(status: u32, kind: f64, entries: &[(usize, f64)], focal_length: f32) -> (u32, Given) {
+    (status, (VIEW, inputs::projected(&with(with(SEEN, &[(0, kind)]), entries)), focal_length))
+}
+
+/// Volumes of all kinds, with numbers at the ends of f32.
+fn volumes(kind: f64) -> Vec<(u32, Given)> {
+    let set = |status, entries: &[_], focal_length| set(status, kind, entries, focal_length);
+    // Near above far, behind, on both sides; a window turned over.
+    let mut fixed = vec![
+        set(0, &[(5, 100.0), (6, 1.0)], 50.0),
+        set(0, &[(5, -2.0)], 50.0),
+        set(0, &[(5, -2.0), (6, -1.0)], 50.0),
+        set(0, &[(1, 0.7), (2, -0.5)], 50.0),
+    ];
+    // One number alone past the last f32: a size, an offset, a distance.
+    let last = f64::from(f32::MAX);
+    let size = last / if kind == 0.0 { 50.0 } else { 10.0 };
+    for axis in [1, 3] {
+        let window = |status, low, high, focal_length| set(status, &[(axis, low), (axis + 1, high)], focal_length);
         fixed.extend([
-            (SINGULAR, (first(1e-12), with(m, &[(1, 2e-6)]), 50.0)),
-            (SINGULAR, (first(1e-12), m, f32::NAN)),
-            (NO_PROJECTION, (VIEW, with(m, &[(1, 2e-6)]), f32::NAN)),
-            (NO_PROJECTION, (overflowing[0], with(m, &[(1, 2e-6)]), 50.0)),
+            window(0, -0.4999 * size, 0.4999 * size, 50.0),
+            window(NOT_FINITE, -0.5001 * size, 0.5001 * size, 50.0),
+            window(0, 0.9 * size, 1.0999 * size, 50.0),
+            window(NOT_FINITE, 0.9 * size, 1.1001 * size, 50.0),
+            window(0, -1e-41, 1e-41, 1.0),
+            // So far to the side that its edges are not to be scaled first.
+            window(0, 1e8 + 0.1, 1e8 + 0.1 + 0.1, 50.0),
         ]);
     }
+    fixed.extend([
+        set(0, &[(5, 0.9999 * last), (6, 0.5 * last)], 50.0),
+        set(NOT_FINITE, &[(5, 1.0001 * last), (6, 0.5 * last)], 50.0),
+        set(NOT_FINITE, &[(6, -1.0001 * last), (5, 0.5 * last)], 50.0),
+        set(0, &[(5, 1e-42), (6, 3e-42)], 50.0),
+        // The longest lens, which only a perspective window is scaled by.
+        set(if kind == 0.0 { NOT_FINITE } else { 0 }, &[], f32::MAX),
+        set(0, &[(2, 0.1), (4, 0.1)], f32::MAX),
+    ]);
+    fixed
+}
 
-    for kind in [0.0, 1.0] {
-        let set = |status: u32, entries: &[(usize, f64)], focal_length: f32| {
-            (status, (VIEW, inputs::projected(&with(with(SEEN, &[(0, kind)]), entries)), focal_length))
-        };
-        // Near above far, behind, on both sides; a window turned over.
-        fixed.extend([
-            set(0, &[(5, 100.0), (6, 1.0)], 50.0),
-            set(0, &[(5, -2.0)], 50.0),
-            set(0, &[(5, -2.0), (6, -1.0)], 50.0),
-            set(0, &[(1, 0.7), (2, -0.5)], 50.0),
-        ]);
-        // One number alone past the last f32: a size, an offset, a distance.
-        let last = f64::from(f32::MAX);
-        let size = last / if kind == 0.0 { 50.0 } else { 10.0 };
-        for axis in [1, 3] {
-            fixed.extend([
-                set(0, &[(axis, -0.4999 * size), (axis + 1, 0.4999 * size)], 50.0),
-                set(NOT_FINITE, &[(axis, -0.5001 * size), (axis + 1, 0.5001 * size)], 50.0),
-                set(0, &[(axis, 0.9 * size), (axis + 1, 1.0999 * size)], 50.0),
-                set(NOT_FINITE, &[(axis, 0.9 * size), (axis + 1, 1.1001 * size)], 50.0),
-                set(0, &[(axis, -1e-41), (axis + 1, 1e-41)], 1.0),
-            ]);
-        }
-        fixed.extend([
-            set(0, &[(5, 0.9999 * last), (6, 0.5 * last)], 50.0),
-            set(NOT_FINITE, &[(5, 1.0001 * last), (6, 0.5 * last)], 50.0),
-            set(NOT_FINITE, &[(6, -1.0001 * last), (5, 0.5 * last)], 50.0),
-            set(0, &[(5, 1e-42), (6, 3e-42)], 50.0),
-        ]);
-    }
-
-    // A far distance that is what is meant, bit for bit: it is twice the last
-    // row's entry here. From the middle on the last f32 is past.
-    let far = |x: f64| (VIEW, with(perspective, &[(10, -1.5), (14, -0.5 * x)]), 50.0);
+/// Numbers in or beside the middle of two f32, where the last bit of all that
+/// leads to them counts.
+fn narrowed() -> Vec<(u32, Given)> {
+    let mut fixed = Vec::new();
     let middle = f64::from_bits(inputs::tie(f32::MAX.to_bits().into()));
-    let down = |x: f64| f64::from_bits(x.to_bits() - 1);
-    fixed.extend([(0, far(f32::MAX.into())), (0, far(down(middle))), (0, far(-down(middle)))]);
+    for axis in [1, 3] {
+        let window = |status, kind, size: f64, focal_length| {
+            set(status, kind, &[(axis, -0.5 * size), (axis + 1, 0.5 * size)], focal_length)
+        };
+        let past = middle / 31.0;
+        fixed.extend([
+            // A tenth of 29 or 43, divided by a tenth, is the number above
+            // or below; a tenth of 43 times ten is 43.
+            window(0, 0.0, 1.0 + 1.0 / (1 << 20) as f64, 29.0),
+            window(0, 0.0, 1.0 + 1.0 / (1 << 19) as f64, 43.0),
+            // Ten times this is the middle, and divided by a tenth it is not.
+            window(0, 1.0, 0.10000001788139343, 50.0),
+            window(NOT_FINITE, 0.0, past, 31.0),
+            window(0, 0.0, down(past), 31.0),
+        ]);
+    }
+    // The far distance is twice the last row's entry, bit for bit.
+    let far = |x: f64| {
+        let m = with(inputs::projected(&SEEN), &[(10, -1.5), (14, -0.5 * x)]);
+        (VIEW, m, 50.0)
+    };
+    fixed.extend([f32::MAX.into(), down(middle), -down(middle)].map(|x| (0, far(x))));
     fixed.extend([middle, -middle, up(middle)].map(|x| (NOT_FINITE, far(x))));
     fixed
+}
+
+fn up(x: f64) -> f64 {
+    f64::from_bits(x.to_bits() + 1)
+}
+
+fn down(x: f64) -> f64 {
+    f64::from_bits(x.to_bits() - 1)
 }
 
 #[cfg(test)]
