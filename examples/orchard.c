@@ -15,6 +15,11 @@ static const double view[48] = {
 static const double south[23] = {200, -900, 0, 1200, -100, 300, 1, 0, 0, 0, 0, 1, 0, 0, 0, 0, 1, 0, 0, 0, 0, 1, 0};
 static const double north[23] = {0, 0, 0, 800, 600, 250, 0, 1, 0, 0, -1, 0, 0, 0, 0, 0, 1, 0, 4600, 2000, 0, 1, 0};
 
+/* A mast camera as its maker sends it: it stands at 2000, -500, 300 and looks along -z, through a window that reaches 1 to
+ * either side and 0.5 up and down at a distance of one, from 100 to 5000. */
+static const double camera_view[16] = {1, 0, 0, 0, 0, 1, 0, 0, 0, 0, 1, 0, -2000, 500, -300, 1};
+static const double camera_window[7] = {0, -1, 1, -0.5, 0.5, 100, 5000};
+
 static void print_verdict(const char *what, uint32_t status, uint32_t yes)
 {
     if (status != 0)
@@ -38,7 +43,7 @@ int main(void)
 {
     const double mast[3] = {-500, 1500, 550};
     const double survey[3] = {12.34, 20.5, 1.6}, far_off[3] = {656, 0, 0}; /* metres */
-    double tree[3] = {0}, both[23] = {0}, range[6] = {0};
+    double tree[3] = {0}, both[23] = {0}, range[6] = {0}, projection[16] = {0}, camera[24] = {0};
     uint32_t status, yes = 0;
 
     status = gf_grid(survey, 3, tree, 3);
@@ -55,6 +60,13 @@ int main(void)
     if (status == 0)
         status = gf_bbox_aligned_range(both, 23, range, 6);
     print_numbers("both blocks, least and greatest", status, range, 6);
+
+    status = gf_projection_matrix(camera_window, 7, projection, 16);
+    if (status == 0)
+        status = gf_camera_set_from_view_and_projection(camera_view, 16, projection, 16, 50.0f, camera, 24);
+    print_numbers("camera at, and its lens", status, camera + 12, 12);
+    status = gf_camera_set_from_view_and_projection(camera_view, 16, projection, 16, 3e38f, camera, 24);
+    print_numbers("camera with a focal length of 3e38", status, camera + 12, 12);
 
     status = gf_grid(far_off, 3, tree, 3);
     print_numbers("tree at 656 metres", status, tree, 3);

@@ -7,6 +7,8 @@ extern "C" {
     fn gf_intersects_bbox(v: *const f64, v_len: usize, b: *const f64, b_len: usize, out: *mut u32) -> u32;
     fn gf_bbox_combine(a: *const f64, a_len: usize, b: *const f64, b_len: usize, out: *mut f64, out_len: usize) -> u32;
     fn gf_bbox_aligned_range(b: *const f64, b_len: usize, out: *mut f64, out_len: usize) -> u32;
+    fn gf_projection_matrix(p: *const f64, p_len: usize, out: *mut f64, out_len: usize) -> u32;
+    fn gf_camera_set_from_view_and_projection(v: *const f64, v_len: usize, p: *const f64, p_len: usize, focal_length: f32, out: *mut f64, out_len: usize) -> u32;
 }
 
 /// What a call wrote, or the number of its refusal. The calls are safe: a slice's pointer and length belong together, and
@@ -36,6 +38,16 @@ fn combine(a: &[f64], b: &[f64]) -> Result<[f64; 23], u32> {
 
 fn aligned_range(b: &[f64]) -> Result<[f64; 6], u32> {
     answer([0.0; 6], |out| unsafe { gf_bbox_aligned_range(b.as_ptr(), b.len(), out.as_mut_ptr(), out.len()) })
+}
+
+fn projection_matrix(p: &[f64]) -> Result<[f64; 16], u32> {
+    answer([0.0; 16], |out| unsafe { gf_projection_matrix(p.as_ptr(), p.len(), out.as_mut_ptr(), out.len()) })
+}
+
+fn camera(v: &[f64], p: &[f64], focal_length: f32) -> Result<[f64; 24], u32> {
+    answer([0.0; 24], |out| unsafe {
+        gf_camera_set_from_view_and_projection(v.as_ptr(), v.len(), p.as_ptr(), p.len(), focal_length, out.as_mut_ptr(), out.len())
+    })
 }
 
 fn print_verdict(what: &str, verdict: Result<u32, u32>) {
@@ -69,6 +81,13 @@ fn main() -> Result<(), u32> {
     print_verdict("south block in view", box_in_view(&view, &south));
     print_verdict("north block, which touches, in view", box_in_view(&view, &north));
     print_numbers("both blocks, least and greatest", combine(&south, &north).and_then(|both| aligned_range(&both)));
+
+    // A mast camera as its maker sends it: where it stands, and the window at a distance of one that it looks through.
+    let camera_view = rows([[1.0, 0.0, 0.0, 0.0], [0.0, 1.0, 0.0, 0.0], [0.0, 0.0, 1.0, 0.0], [-2000.0, 500.0, -300.0, 1.0]]);
+    let projection = projection_matrix(&[0.0, -1.0, 1.0, -0.5, 0.5, 100.0, 5000.0])?;
+    let place_and_lens = |camera: [f64; 24]| <[f64; 12]>::try_from(&camera[12..]).unwrap();
+    print_numbers("camera at, and its lens", camera(&camera_view, &projection, 50.0).map(place_and_lens));
+    print_numbers("camera with a focal length of 3e38", camera(&camera_view, &projection, 3e38).map(place_and_lens));
     print_numbers("tree at 656 metres", grid(&[656.0, 0.0, 0.0]));
     Ok(())
 }

@@ -25,6 +25,7 @@
  *   5  a miss
  *   6  a matrix is not a projection
  *   7  a coordinate is off the grid
+ *   8  a number of a camera is not finite
  *
  * With status 0 all of `out` is written. Every refusal leaves `out` unchanged. Slices lent for reading are never written.
  * Where more than one refusal applies, the one with the smaller number is returned. A result of several numbers goes into a
@@ -45,6 +46,8 @@
  *   plane 4               normal, distance. A point is on its positive side where point times normal is at least distance
  *   ray 6                 start, direction
  *   projection 7          kind (0 perspective, 1 orthographic), left, right, bottom, top, near, far
+ *   camera 24             the matrix that carries camera space into the world, kind (as a projection), focal length, horizontal
+ *                         aperture, vertical aperture, horizontal offset, vertical offset, near, far
  *   box 23                range, the matrix that places it, zero-area flag (0 or 1)
  *   volume 48             six planes that face into the view: left, right, bottom, top, near, far; then four rays along the
  *                         edges of the view, from its near corners left bottom, left top, right top, right bottom
@@ -205,6 +208,17 @@ uint32_t gf_projection_matrix(const double *params, size_t params_len, double *o
  * entry by entry, of the larger size of the two or of 1.
  * In: m 16. Out: 7 numbers. Refuses: 1, 2, 6. */
 uint32_t gf_projection_from_matrix(const double *m, size_t m_len, double *out, size_t out_len);
+
+/* ---- cameras */
+
+/* The camera of a view, which carries the world into camera space, and a projection. The focal length is given, since the
+ * matrices fix its ratio to the apertures alone; focal length, apertures and offsets are in tenths of a world unit. The seven
+ * numbers behind the kind are values of binary32: computed in double, narrowed once and widened again. 4: the view has no
+ * inverse (as gf_inverse). 6: the projection is none (as gf_projection_from_matrix). 8: one of the 24 numbers is not finite,
+ * because it overflows binary32, because the view's determinant is infinite, or because the focal length is a NaN or an
+ * infinity. A focal length of 0 or below, and near above far, are accepted. With status 0 all 24 numbers are finite.
+ * In: view 16, projection 16. Out: 24 numbers. Refuses: 1, 2, 4, 6, 8. */
+uint32_t gf_camera_set_from_view_and_projection(const double *view, size_t view_len, const double *projection, size_t projection_len, float focal_length, double *out, size_t out_len);
 
 /* ---- boxes. 3, in each: the flag of a box is neither 0, of either sign, nor 1 */
 

@@ -1,14 +1,20 @@
 -- Lent slices as lists of numbers. Definitions only.
 use Prim.Native.Nat.{ℕ, _+_}
-use mathlib.Core.Bool.{cond}
-use mathlib.Core.List.{List, _++_}
+use mathlib.Core.Bool.{Bool, true, cond, _&&_}
+use mathlib.Core.List.{List, [], _∷_, _++_}
 use lib.Dec.{eqb, leb}
 use lib.ListN.{length, getD, take, drop}
 use lib.Ieee.{Float, nan}
+use lib.Ieee.Scale.{finite}
 
 -- the number at a place, and past the end a NaN
 abbrev pub at : List Float → ℕ → Float
 at s i = getD s i nan
+
+-- none is a NaN or an infinity
+unfoldable pub allFinite : List Float → Bool
+allFinite [] = true
+allFinite (x ∷ xs) = finite x && allFinite xs
 
 -- what a slice holds after the numbers v were stored into it: those, if it has room for just as many
 abbrev pub stored : List Float → List Float → List Float

@@ -10,6 +10,7 @@ pub enum Refusal {
     Miss,
     NotAProjection,
     OffGrid,
+    NotFinite,
 }
 
 pub enum Written {
@@ -29,7 +30,7 @@ pub enum Verdict {
 }
 
 impl Refusal {
-    // The number that paper 01 gives the refusal.
+    // The number that the papers give the refusal.
     pub fn number(self) -> u32
         ensures { λ r. ⌜ r ≡ numberOf self ⌝ }
     {
@@ -41,6 +42,7 @@ impl Refusal {
             Refusal::Miss => 5,
             Refusal::NotAProjection => 6,
             Refusal::OffGrid => 7,
+            Refusal::NotFinite => 8,
         }
     }
 }

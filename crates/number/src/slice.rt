@@ -1,6 +1,7 @@
 // Numbers read from a lent slice, and a result stored into one.
 ghost use mathlib.Core.Path.{_≡_};
-ghost use Rattle.number.specs.Slice.{at, storedAt, stored};
+ghost use Rattle.number.specs.Slice.{at, allFinite, storedAt, stored};
+use crate::order::is_finite;
 
 // The number at a place; past the end a NaN.
 pub fn at(s: &[f64], i: usize) -> f64
@@ -10,6 +11,19 @@ pub fn at(s: &[f64], i: usize) -> f64
         return s[i];
     }
     0.0 / 0.0
+}
+
+// Whether none is a NaN or an infinity. It looks at all, so that no branch waits for a number.
+pub fn all_finite(s: &[f64]) -> bool
+    ensures { λ r. ⌜ r ≡ allFinite (now (s .entry)) ⌝ }
+{
+    let mut all = true;
+    let mut i = s.len();
+    while 0 < i {
+        i -= 1;
+        all = is_finite(s[i]) & all;
+    }
+    all
 }
 
 // The numbers of one slice, into another from a place on; one without room for them is left alone.

@@ -1,5 +1,6 @@
-// The operations of the crates `number`, codes from 1, `matrix`, from 101, and `verdict`, from 201.
+// The operations of the crates `number`, codes from 1, `matrix`, from 101, `verdict`, from 201, and `camera`, 223.
 ghost use Prim.Native.Nat.{_<_};
+use crate::camera_operations;
 use crate::matrix_operations;
 use crate::number_operations;
 use crate::verdict_operations;
@@ -14,7 +15,10 @@ pub(crate) fn lengths(code: u64) -> [u8; 5] {
     if code <= 200 {
         return matrix_operations::lengths(code);
     }
-    verdict_operations::lengths(code)
+    if code <= 222 {
+        return verdict_operations::lengths(code);
+    }
+    camera_operations::lengths(code)
 }
 
 // Where an operation is counted: at its code; 0 where there is no such operation.
@@ -49,5 +53,8 @@ pub(crate) fn call(code: u64, given: &[f64], lengths: [u8; 5], out: &mut [f64]) 
     if code <= 200 {
         return matrix_operations::call(code, a, b, out);
     }
-    verdict_operations::call(code, a, b, c, d, out)
+    if code <= 222 {
+        return verdict_operations::call(code, a, b, c, d, out);
+    }
+    camera_operations::call(a, b, c, out)
 }

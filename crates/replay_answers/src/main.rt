@@ -1,6 +1,7 @@
 // Replays answers recorded from Rust. For each operation the program writes how many of its records the
-// crates `number`, `matrix` and `verdict` agree with, and how many it read.
+// crates `number`, `matrix`, `verdict` and `camera` agree with, and how many it read.
 mod calls;
+mod camera_operations;
 mod matrix_operations;
 mod number_operations;
 mod record;
@@ -78,6 +79,10 @@ fn print_verdict_counts(agreed: &[u64; 256], read: &[u64; 256]) {
     print_count(b"intersects_view_volume", 222, agreed, read);
 }
 
+fn print_camera_counts(agreed: &[u64; 256], read: &[u64; 256]) {
+    print_count(b"camera_set_from_view_and_projection", 223, agreed, read);
+}
+
 fn main() {
     let mut agreed = [0u64; 256];
     let mut read = [0u64; 256];
@@ -90,4 +95,5 @@ fn main() {
     print_ray_counts(&agreed, &read);
     print_projection_counts(&agreed, &read);
     print_verdict_counts(&agreed, &read);
+    print_camera_counts(&agreed, &read);
 }

@@ -43,7 +43,8 @@ pub enum Recovered {
     NotAProjection,
 }
 
-fn kind_number(projection: Projection) -> f64
+// The number of a kind in a record.
+pub fn kind_number(projection: Projection) -> f64
     ensures { λ r. ⌜ r ≡ kindNumber projection ⌝ }
 {
     match projection {

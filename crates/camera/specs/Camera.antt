@@ -1,0 +1,95 @@
+-- Cameras, as Gf's documentation has them: where one stands, and what its lens sees. Definitions only.
+-- Apertures, their offsets and the focal length are in tenths of a world unit.
+use mathlib.Core.Bool.{_&&_}
+use mathlib.Core.List.{List, [], _∷_, _++_}
+use lib.Ieee.{Float}
+use Rattle.number.specs.Answer.{Reply, Outcome, refused, result, numberOf, unless, has}
+use Rattle.number.specs.Arithmetic.{_⊕_, _⊗_, _⊘_}
+use Rattle.number.specs.Format.{narrowOf, widenOf}
+use Rattle.number.specs.Slice.{allFinite}
+use Rattle.number.specs.declared.answer.Refusal.the-variants.{Singular as SingularRefusal, NotAProjection as NoProjection, NotFinite}
+use Rattle.matrix.specs.Constants.{rounded, half, one}
+use Rattle.matrix.specs.Matrix.{matrixOf, entries}
+use Rattle.matrix.specs.Inverse.{inverse}
+use Rattle.matrix.specs.declared.matrix.Mat4d.{Mat4d}
+use Rattle.matrix.specs.declared.inverse.Inverted.{Inverted}
+use Rattle.matrix.specs.declared.inverse.Inverted.the-variants.{Matrix, Singular}
+use Rattle.verdict.specs.Calls.{attempting}
+use Rattle.verdict.specs.Projection.{kindNumber, width, height, recovered}
+use Rattle.verdict.specs.declared.projection.Projection.{Projection}
+use Rattle.verdict.specs.declared.projection.Projection.the-variants.{Perspective, Orthographic}
+use Rattle.verdict.specs.declared.projection.ProjectionParams.{ProjectionParams}
+use Rattle.verdict.specs.declared.projection.Recovered.{Recovered}
+use Rattle.verdict.specs.declared.projection.Recovered.the-variants.{Params, NotAProjection}
+use Rattle.camera.specs.declared.camera.Camera.{Camera}
+use Rattle.camera.specs.declared.camera.Set.{Set}
+use Rattle.camera.specs.declared.camera.Set.the-variants.{To, Refused}
+
+-- ---- its numbers
+
+-- those that are f32, "widened without loss"
+abbrev pub lens : Camera → List Float
+lens c =
+    widenOf (c .«focal_length»)
+    ∷ widenOf (c .«horizontal_aperture») ∷ widenOf (c .«vertical_aperture»)
+    ∷ widenOf (c .«horizontal_aperture_offset») ∷ widenOf (c .«vertical_aperture_offset»)
+    ∷ widenOf (c .near) ∷ widenOf (c .far) ∷ []
+
+-- "24 numbers: transform, kind, focal length, horizontal and vertical aperture, their offsets, near, far"
+abbrev pub numbers : Camera → List Float
+numbers c = entries (c .transform) ++ kindNumber (c .projection) ∷ lens c
+
+-- ---- the lens of a volume
+
+-- a tenth of a world unit
+abbrev pub unit : Float
+unit = rounded 1 10
+
+-- What brings a length of the window to the film back. A perspective window stands at a distance of one, and the film back at the focal length,
+-- which is given in its unit and wanted in that of the aperture; an orthographic window is the film back.
+abbrev pub toAperture : Projection → Float → Float
+toAperture Perspective focal = widenOf focal ⊗ unit ⊘ unit
+toAperture Orthographic focal = one ⊘ unit
+
+-- The film back is the window, and its offset the window's center, each narrowed once.
+abbrev pub filmed : Mat4d → ProjectionParams → Float → Float → Camera
+filmed transform p focal scale = record {
+  transform = transform;
+  projection = p .projection;
+  «focal_length» = focal;
+  «horizontal_aperture» = narrowOf (width p ⊗ scale);
+  «vertical_aperture» = narrowOf (height p ⊗ scale);
+  «horizontal_aperture_offset» = narrowOf (half ⊗ (p .right ⊕ p .left) ⊗ scale);
+  «vertical_aperture_offset» = narrowOf (half ⊗ (p .top ⊕ p .bottom) ⊗ scale);
+  near = narrowOf (p .near);
+  far = narrowOf (p .far);
+}
+
+abbrev pub cameraOf : Mat4d → ProjectionParams → Float → Camera
+cameraOf transform p focal = filmed transform p focal (toAperture (p .projection) focal)
+
+-- ---- the camera of a view and a projection
+
+-- "accepts exactly where the Rust answers true and all 24 numbers are finite", and 8 "for all else not accepted"
+unfoldable pub finiteOnly : Camera → Set
+finiteOnly c = unless (allFinite (numbers c)) (Refused NotFinite) (To c)
+
+-- "4 where the Rust finds no inverse of the view", then "6 where it refuses the projection"
+abbrev pub opened : Inverted → Recovered → Float → Set
+opened Singular r focal = Refused SingularRefusal
+opened (Matrix transform) NotAProjection focal = Refused NoProjection
+opened (Matrix transform) (Params p) focal = finiteOnly (cameraOf transform p focal)
+
+unfoldable pub cameraFrom : Mat4d → Mat4d → Float → Set
+unfolding finiteOnly
+cameraFrom view projection focal = opened (inverse view) (recovered projection) focal
+
+-- ---- what the operation answers and leaves: "lengths 1 and 2, then 4 [..], 6 [..], and 8"
+
+abbrev pub setNumbers : Set → Outcome (List Float)
+setNumbers (To c) = result (numbers c)
+setNumbers (Refused r) = refused (numberOf r)
+
+unfoldable pub cameraCall : List Float → List Float → Float → List Float → Reply
+cameraCall view projection focal out =
+    attempting (has 16 view && has 16 projection) 24 (setNumbers (cameraFrom (matrixOf view) (matrixOf projection) focal)) out

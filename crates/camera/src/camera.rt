@@ -1,0 +1,141 @@
+// A camera as a plain value: where it stands and what it sees.
+ghost use mathlib.Core.Path.{_≡_};
+ghost use Rattle.number.specs.Slice.{allFinite, stored};
+ghost use Rattle.camera.specs.Camera.{numbers, toAperture, cameraOf, cameraFrom};
+use matrix::inverse::Inverted;
+use matrix::matrix::Mat4d;
+use number::answer::Refusal;
+use number::format::narrow;
+use number::format::widen;
+use number::slice;
+use verdict::projection::Projection;
+use verdict::projection::ProjectionParams;
+use verdict::projection::Recovered;
+use verdict::projection::kind_number;
+
+// The transform carries camera space into the world. The apertures, their offsets and the focal length are in tenths of a world
+// unit, near and far in world units.
+pub struct Camera {
+    pub transform: Mat4d,
+    pub projection: Projection,
+    pub focal_length: f32,
+    pub horizontal_aperture: f32,
+    pub vertical_aperture: f32,
+    pub horizontal_aperture_offset: f32,
+    pub vertical_aperture_offset: f32,
+    pub near: f32,
+    pub far: f32,
+}
+
+// The camera of two matrices, or why there is none.
+pub enum Set {
+    To(Camera),
+    Refused(Refusal),
+}
+
+// What brings a length of the window to the film back: a perspective window stands at a distance of one, and the film back at the
+// focal length; an orthographic window is the film back.
+fn to_aperture(projection: Projection, focal_length: f32) -> f64
+    ensures { λ r. ⌜ r ≡ toAperture projection «focal_length» ⌝ }
+{
+    match projection {
+        Projection::Perspective => widen(focal_length) * Camera::FOCAL_LENGTH_UNIT
+            / Camera::APERTURE_UNIT,
+        Projection::Orthographic => 1.0 / Camera::APERTURE_UNIT,
+    }
+}
+
+impl Camera {
+    // World units in one unit of aperture.
+    pub const APERTURE_UNIT: f64 = 0.1;
+
+    // World units in one unit of focal length.
+    pub const FOCAL_LENGTH_UNIT: f64 = 0.1;
+
+    // The camera that stands by a transform and sees a volume.
+    fn seeing(transform: Mat4d, params: ProjectionParams, focal_length: f32) -> Camera
+        ensures { λ r. ⌜ r ≡ cameraOf transform params «focal_length» ⌝ }
+    {
+        let projection = params.projection;
+        let scale = to_aperture(projection, focal_length);
+        Camera {
+            transform,
+            projection,
+            focal_length,
+            horizontal_aperture: narrow((params.right - params.left) * scale),
+            vertical_aperture: narrow((params.top - params.bottom) * scale),
+            horizontal_aperture_offset: narrow(0.5 * (params.right + params.left) * scale),
+            vertical_aperture_offset: narrow(0.5 * (params.top + params.bottom) * scale),
+            near: narrow(params.near),
+            far: narrow(params.far),
+        }
+    }
+
+    // Its numbers, in the order of its record.
+    fn numbers(self) -> [f64; 24]
+        ensures { λ r. ⌜ r ≡ numbers self ⌝ }
+    {
+        let m = self.transform;
+        let projection = self.projection;
+        [
+            m.r0.x,
+            m.r0.y,
+            m.r0.z,
+            m.r0.w,
+            m.r1.x,
+            m.r1.y,
+            m.r1.z,
+            m.r1.w,
+            m.r2.x,
+            m.r2.y,
+            m.r2.z,
+            m.r2.w,
+            m.r3.x,
+            m.r3.y,
+            m.r3.z,
+            m.r3.w,
+            kind_number(projection),
+            widen(self.focal_length),
+            widen(self.horizontal_aperture),
+            widen(self.vertical_aperture),
+            widen(self.horizontal_aperture_offset),
+            widen(self.vertical_aperture_offset),
+            widen(self.near),
+            widen(self.far),
+        ]
+    }
+
+    // Whether all of them are finite.
+    fn is_finite(self) -> bool
+        ensures { λ r. ⌜ r ≡ allFinite (numbers self) ⌝ }
+    {
+        let all = self.numbers();
+        slice::all_finite(&all)
+    }
+
+    // The camera of a view, which carries the world into camera space, and a projection. The focal length is given, since the matrices
+    // fix its ratio to the apertures alone.
+    pub fn set_from_view_and_projection(view: Mat4d, projection: Mat4d, focal_length: f32) -> Set
+        ensures { λ r. ⌜ r ≡ cameraFrom view projection «focal_length» ⌝ }
+    {
+        let Inverted::Matrix(transform) = view.inverse() else {
+            return Set::Refused(Refusal::Singular);
+        };
+        let Recovered::Params(params) = ProjectionParams::from_matrix(projection) else {
+            return Set::Refused(Refusal::NotAProjection);
+        };
+        let camera = Camera::seeing(transform, params, focal_length);
+        if !camera.is_finite() {
+            return Set::Refused(Refusal::NotFinite);
+        }
+        Set::To(camera)
+    }
+
+    // Its numbers, into a slice of 24.
+    pub fn store(self, out: &mut [f64])
+        ensures { λ _. ⌜ now (out .exit) ≡ stored (numbers self) (now (out .entry)) ⌝ }
+    {
+        let all = self.numbers();
+        slice::store(&all, out);
+    }
+}

@@ -1,0 +1,40 @@
+// A camera from two matrices, over lent slices.
+ghost use mathlib.Core.Path.{_≡_};
+ghost use Rattle.number.specs.Answer.{reply};
+ghost use Rattle.camera.specs.Camera.{cameraCall};
+use crate::camera::Camera;
+use crate::camera::Set;
+use matrix::matrix::Mat4d;
+use number::answer::Refusal;
+use number::answer::Written;
+
+// The camera of a view and a projection. A refused one leaves the record as it was.
+pub fn set_from_view_and_projection(
+    view: &[f64],
+    projection: &[f64],
+    focal_length: f32,
+    out: &mut [f64],
+) -> Written
+    ensures { λ r. ⌜ reply r (now (out .exit)) ≡ cameraCall (now (view .entry)) (now (projection .entry)) «focal_length» (now (out .entry)) ⌝ }
+{
+    if view.len() != 16 {
+        return Written::Refused(Refusal::InputLength);
+    }
+    if projection.len() != 16 {
+        return Written::Refused(Refusal::InputLength);
+    }
+    if out.len() != 24 {
+        return Written::Refused(Refusal::OutputLength);
+    }
+    match Camera::set_from_view_and_projection(
+        Mat4d::load(view),
+        Mat4d::load(projection),
+        focal_length,
+    ) {
+        Set::To(camera) => {
+            camera.store(out);
+            Written::Done
+        }
+        Set::Refused(refusal) => Written::Refused(refusal),
+    }
+}

@@ -1,0 +1,3 @@
+// Cameras: where one stands, and what its lens sees.
+pub mod camera;
+pub mod camera_calls;
