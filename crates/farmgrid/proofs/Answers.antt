@@ -4,7 +4,7 @@ use mathlib.Core.Bool.{true}
 use mathlib.Core.List.{List}
 use lib.ListN.{length}
 use lib.Ieee.{Float}
-use Rattle.number.specs.Answer.{Outcome, result, write, leaving, answering}
+use Rattle.number.specs.Answer.{result, write, leaving, answering}
 use Rattle.number.proofs.Refusals.{has-yes}
 use Rattle.matrix.specs.Vec.{vec3Of, coordinates}
 use Rattle.matrix.specs.Matrix.{matrixOf}

@@ -1,6 +1,4 @@
 -- The verdicts on records of the farm grid are exact: what an operation answers is the verdict of its values, which is the exact one for any list of planes.
-use mathlib.Core.Bool.{Bool}
-use mathlib.Core.List.{List}
 use lib.Ieee.Bits.{is-true}
 use Rattle.matrix.specs.Vec.{vec3Of}
 use Rattle.verdict.specs.BBox.{boxOf}

@@ -3,7 +3,6 @@ use mathlib.Core.Path.{_≡_, sym, ap, _∙_}
 use borrow.Author.Needs.{needs}
 use lib.Ieee.{Float, binary64, ofBits}
 use Rattle.number.specs.Arithmetic.{_⊗_, _⊘_}
-use Rattle.matrix.specs.Constants.{one}
 use Rattle.matrix.proofs.Literals.{one-bits}
 use Rattle.verdict.specs.declared.projection.Projection.{Projection}
 use Rattle.camera.specs.Camera.{unit, toAperture}

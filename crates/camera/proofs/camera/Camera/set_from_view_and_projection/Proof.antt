@@ -5,15 +5,15 @@ use borrow.Author.Needs.{needs}
 use lib.Ieee.{Float}
 use Rattle.number.specs.Answer.{unless}
 use Rattle.number.specs.Slice.{allFinite}
-use Rattle.number.specs.declared.answer.Refusal.the-variants.{Singular as SingularRefusal, NotAProjection as NoProjection, NotFinite}
+use Rattle.number.specs.declared.answer.Refusal.the-variants.{NotFinite}
 use Rattle.matrix.specs.Inverse.{inverse}
 use Rattle.matrix.specs.declared.matrix.Mat4d.{Mat4d}
 use Rattle.matrix.specs.declared.inverse.Inverted.{Inverted}
-use Rattle.matrix.specs.declared.inverse.Inverted.the-variants.{Matrix, Singular}
+use Rattle.matrix.specs.declared.inverse.Inverted.the-variants.{Matrix}
 use Rattle.verdict.specs.Projection.{recovered}
 use Rattle.verdict.specs.declared.projection.ProjectionParams.{ProjectionParams}
 use Rattle.verdict.specs.declared.projection.Recovered.{Recovered}
-use Rattle.verdict.specs.declared.projection.Recovered.the-variants.{Params, NotAProjection}
+use Rattle.verdict.specs.declared.projection.Recovered.the-variants.{Params}
 use Rattle.verdict.proofs.Flags.{negated}
 use Rattle.camera.specs.declared.camera.Camera.{Camera}
 use Rattle.camera.specs.declared.camera.Set.the-variants.{To, Refused}
