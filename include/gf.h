@@ -68,7 +68,7 @@ extern "C" {
 /* ---- the survey grid */
 
 /* A point in metres becomes whole centimetres. Each coordinate is multiplied by 100 in one rounded operation, then rounded
- * to the nearest whole number, halves away from zero. 7: a product is not finite, or its rounded size exceeds 65536. Zero
+ * to the nearest whole number, halves to the even one. 7: a product is not finite, or its rounded size exceeds 65536. Zero
  * results are positive.
  * In: p 3. Out: 3 numbers. Refuses: 1, 2, 7. */
 uint32_t gf_grid(const double *p, size_t p_len, double *out, size_t out_len);

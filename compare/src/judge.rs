@@ -3,6 +3,8 @@
 //! The Rust's functions of numbers have the C signatures of ours, so that
 //! both are called, and timed, through the same kind of pointer.
 
+use std::cmp::Ordering;
+
 // Paper 01's refusals.
 
 pub const WRONG_INPUT: u32 = 1;
@@ -63,8 +65,8 @@ pub fn grid(p: &[f64; 3]) -> Result<[f64; 3], u32> {
     Ok(whole)
 }
 
-/// The whole number nearest to `x`, halves away from zero, if `x` is finite
-/// and that number is on the grid.
+/// The whole number nearest to `x`, of two the even one, if `x` is finite and
+/// that number is on the grid.
 fn nearest_whole(x: f64) -> Option<i64> {
     let bits = x.to_bits();
     let (exponent, fraction) = ((bits >> 52 & 0x7ff) as i32, bits & ((1 << 52) - 1));
@@ -77,8 +79,15 @@ fn nearest_whole(x: f64) -> Option<i64> {
     let size = match scale {
         // At least 2^52.
         0.. => return None,
-        // (2 · significand + 2^-scale) / 2^(1 - scale), rounded down.
-        -60..0 => ((significand as u128) * 2 + (1 << -scale)) >> (1 - scale),
+        // Of significand / 2^-scale the whole part, or the next.
+        -60..0 => {
+            let (whole, rest) = ((significand >> -scale) as u128, significand & ((1 << -scale) - 1));
+            match (2 * rest).cmp(&(1 << -scale)) {
+                Ordering::Less => whole,
+                Ordering::Equal => whole + whole % 2,
+                Ordering::Greater => whole + 1,
+            }
+        }
         // Below 2^53 / 2^61, which is less than a half.
         _ => 0,
     };
@@ -86,9 +95,9 @@ fn nearest_whole(x: f64) -> Option<i64> {
     (size <= LARGEST).then_some(signed)
 }
 
-/// The grid as Rust would have it, with `f64::round`, to time against.
+/// The grid as Rust would have it, with `f64::round_ties_even`, to time against.
 pub fn grid_by_round(p: &[f64; 3]) -> Result<[f64; 3], u32> {
-    let whole = p.map(|metres| (metres * 100.0).round());
+    let whole = p.map(|metres| (metres * 100.0).round_ties_even());
     if !whole.iter().all(|n| n.abs() <= LARGEST as f64) {
         return Err(OFF_GRID);
     }
@@ -105,8 +114,14 @@ mod tests {
         let centimetres = |x: f64| grid(&[x; 3]).map(|whole| whole[0].to_bits());
         let passes = |n: f64| Ok(n.to_bits());
         let refused = Err(OFF_GRID);
-        assert_eq!(centimetres(0.125), passes(13.0));
-        assert_eq!(centimetres(-0.125), passes(-13.0));
+        assert_eq!(centimetres(0.125), passes(12.0));
+        assert_eq!(centimetres(-0.125), passes(-12.0));
+        assert_eq!(centimetres(0.375), passes(38.0));
+        assert_eq!(centimetres(0.005), passes(0.0));
+        assert_eq!(centimetres(-0.005), passes(0.0));
+        assert_eq!(centimetres(0.015), passes(2.0));
+        assert_eq!(centimetres(655.365), passes(65_536.0));
+        assert_eq!(centimetres(655.3650000000001), refused);
         assert_eq!(centimetres(655.0), passes(65_500.0));
         assert_eq!(centimetres(655.36), passes(65_536.0));
         assert_eq!(centimetres(656.0), refused);

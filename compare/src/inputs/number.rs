@@ -180,16 +180,21 @@ pub fn notable_metres() -> Vec<u64> {
 pub fn metres(rng: &mut Rng) -> u64 {
     let sign = rng.sign();
     let whole = rng.below(65_540) >> rng.below(17);
-    sign | match rng.below(8) {
+    sign | match rng.below(9) {
         // About a half, a whole number of centimetres, or the last of them.
         0..3 => near(rng, ((whole as f64 + 0.5) / 100.0).to_bits(), 3),
         3 => near(rng, (whole as f64 / 100.0).to_bits(), 3),
         4 => {
-            let at = rng.pick(&[655.36, 655.365, 655.355]);
+            let at = rng.pick(&[655.36, 655.365, 655.355, 655.375]);
             near(rng, f64::to_bits(at), 8)
         }
-        5 => ((rng.bits() >> 11) as f64 / (1_u64 << 53) as f64 * 656.0).to_bits(),
-        6 => (1000 + rng.below(32)) << 52 | rng.bits() & FRACTION,
+        // An odd number of eighths, whose product is a half, and its neighbours.
+        5 => {
+            let eighths = 2 * rng.below(2622) + 1;
+            near(rng, (eighths as f64 / 8.0).to_bits(), 1)
+        }
+        6 => ((rng.bits() >> 11) as f64 / (1_u64 << 53) as f64 * 656.0).to_bits(),
+        7 => (1000 + rng.below(32)) << 52 | rng.bits() & FRACTION,
         _ => any(rng) & !SIGN,
     }
 }

@@ -122,7 +122,7 @@ mod tests {
     use super::*;
 
     #[test]
-    fn the_exact_grid_is_that_of_round() {
+    fn the_exact_grid_is_that_of_round_ties_even() {
         for case in 0..2_000_000 {
             let x = f64::from_bits(inputs::metres(&mut Rng::at(1, case)));
             let bits = |whole: [f64; 3]| whole.map(f64::to_bits);

@@ -30,6 +30,8 @@ pub mod BoxInView
 -- the verdicts on records
 pub mod Answers
 pub mod Verdicts
+-- surveys
+pub mod Survey
 -- turns
 pub mod TurnedDot
 pub mod Turned

@@ -4,5 +4,6 @@ pub mod Placement
 pub mod FarmGrid
 pub mod Records
 pub mod Verdicts
+pub mod Survey
 pub mod Turns
 pub mod Combining

@@ -1,34 +1,55 @@
 -- The grid's coordinate of a number, by how many smallest values it is: the rounding sees only the value of its fraction.
 -- A number from 2 ^ 17 on is off the grid, and one below a half is 0. Assumes nothing.
-use mathlib.Core.Path.{_≡_, refl, sym, ap, _∙_}
+use mathlib.Core.Path.{_≡_, refl, sym, ap, subst, _∙_}
 use mathlib.Core.Bool.{Bool, true, false, not, cond}
 use Prim.Native.Nat.{ℕ, zero, suc, _+_, _*_, _/_, _%_, _^_, _≤_, _<_}
-use native.Mathlib.Nat.{mul-assoc, mul-pos, mul-le-mul, mul-le-mul-right, mul-lt-mul-of-pos-right, le-trans, le-of-eq, lt-of-lt-of-le, lt-of-le-of-lt, lt-of-not-le, not-le-of-lt, le-add-right, le-div-iff-mul-le, div-lt-iff-lt-mul, mod-lt, zero-lt-suc, eq-of-mul-eq-mul-right}
+use native.Mathlib.Nat.{le-antisymm, le-of-mul-le-mul-right, mul-assoc, mul-le-mul, mul-le-mul-right, mul-lt-mul-of-pos-right, le-trans, le-of-eq, lt-of-lt-of-le, lt-of-le-of-lt, lt-of-not-le, not-le-of-lt, le-add-right, le-div-iff-mul-le, div-lt-iff-lt-mul, mod-lt, eq-of-mul-eq-mul-right}
+use native.Mathlib.Numerals.{add-one}
 use native.Mathlib.Omega.{arith}
-use lib.Dec.{T, leb, leb→le, nleb→lt}
+use lib.Dec.{T, leb, ltb, leb→le, nleb→lt, ltb→lt, nltb→le}
 use lib.IntN.{pos}
 use lib.Pow.{pow-pos, pow-mono, pow-add}
-use lib.Ieee.{Float, nan, inf, fin, binary64, up, down}
+use lib.Ieee.{Float, nan, inf, fin, binary64, up, down, nearest}
 use lib.Ieee.Exact.{HasValue}
 use lib.Ieee.Fits.{down-pos}
-use lib.Ieee.Nearest.{div-same}
+use lib.Ieee.Nearest.{closest, closest-same}
 use Rattle.number.specs.Steps.{fieldUnits, unitsOf}
 use Rattle.number.specs.Grid.{signed, wholeNearest, gridLimit, placed}
+use Rattle.number.proofs.Rounding.{compare-lt, compare-gt, compare-eq, near, closest-zero}
 use Rattle.number.specs.declared.grid.Coordinate.{Coordinate}
 use Rattle.number.specs.declared.grid.Coordinate.the-variants.{On, Off}
 
 -- ---- equal fractions round alike; what is large rounds to something large, and less than a half to 0
+-- the rule is that of the format's rounding, so that its laws hold here
+pub whole-closest : (a b : ℕ) → wholeNearest a b ≡ closest a b
+whole-closest a b = go (ltb (a % b * 2) b) (ltb b (a % b * 2)) (ltb→lt (a % b * 2) b) (nltb→le (a % b * 2) b) (ltb→lt b (a % b * 2)) (nltb→le b (a % b * 2))
+  where
+    q : ℕ
+    q = a / b
+
+    go : (l g : Bool) → (T l → a % b * 2 < b) → (T (not l) → b ≤ a % b * 2) → (T g → b < a % b * 2) → (T (not g) → a % b * 2 ≤ b)
+        → cond l q (cond g (q + 1) (q + q % 2)) ≡ closest a b
+    go true g h i j k = sym (ap (nearest q) (compare-lt (a % b * 2) b (h tt)))
+    go false true h i j k = add-one q ∙ sym (ap (nearest q) (compare-gt (a % b * 2) b (j tt)))
+    go false false h i j k = sym (ap (nearest q) (compare-eq (a % b * 2) b (le-antisymm (k tt) (i tt))))
+
 pub whole-same : (a b c d : ℕ) → 0 < b → 0 < d → a * d ≡ c * b → wholeNearest a b ≡ wholeNearest c d
-whole-same a b c d B D e = div-same (2 * a + b) (2 * b) (2 * c + d) (2 * d) (mul-pos (zero-lt-suc 1) B) (mul-pos (zero-lt-suc 1) D) (omega arith)
+whole-same a b c d B D e = whole-closest a b ∙ closest-same a b c d B D e ∙ sym (whole-closest c d)
+
+-- it is within a half
+pub whole-near : (a b : ℕ) → 0 < b → (2 * a ≤ 2 * (wholeNearest a b * b) + b) × (2 * (wholeNearest a b * b) ≤ 2 * a + b)
+whole-near a b B = subst (λ (n : ℕ). (2 * a ≤ 2 * (n * b) + b) × (2 * (n * b) ≤ 2 * a + b)) (sym (whole-closest a b)) (near a b B)
 
 pub whole-ge : (k a b : ℕ) → 0 < b → k * b ≤ a → k ≤ wholeNearest a b
-whole-ge k a b B h = le-div-iff-mul-le (mul-pos (zero-lt-suc 1) B) .1 (omega arith)
+whole-ge k a b B h = halved (wholeNearest a b) (whole-near a b B .0)
+  where
+    halved : (n : ℕ) → 2 * a ≤ 2 * (n * b) + b → k ≤ n
+    halved n l =
+        let twice : 2 * k * b ≤ (2 * n + 1) * b = omega arith in
+        let z = le-of-mul-le-mul-right twice B in omega arith
 
 pub whole-zero : (a b : ℕ) → 0 < b → 2 * a < b → wholeNearest a b ≡ 0
-whole-zero a b B h = none (wholeNearest a b) (div-lt-iff-lt-mul (mul-pos (zero-lt-suc 1) B) .1 (omega arith))
-  where
-    none : (q : ℕ) → q < 1 → q ≡ 0
-    none q l = omega arith
+whole-zero a b B h = whole-closest a b ∙ closest-zero a b (omega arith)
 
 -- ---- the coordinate
 abbrev pub coordinate : Bool → ℕ → Coordinate
@@ -109,8 +130,8 @@ module _ (m w n : ℕ) (lo : 2 ^ 52 ≤ m) (hi : m < 2 ^ 53) (v : m * 2 ^ w ≡ 
       cut : (i j : ℕ) → 52 + i < j + 52 → i < j
       cut i j h = omega arith
 
-  pub same-fraction : (d : ℕ) → w + d ≡ 1126 → wholeNearest m (2 ^ d) ≡ wholeNearest n (2 ^ 1074)
-  same-fraction d e = whole-same m (2 ^ d) n (2 ^ 1074) (pow-pos d) (pow-pos 1074)
+  pub same-fraction : (d : ℕ) → w + d ≡ 1126 → closest m (2 ^ d) ≡ wholeNearest n (2 ^ 1074)
+  same-fraction d e = sym (whole-closest m (2 ^ d)) ∙ whole-same m (2 ^ d) n (2 ^ 1074) (pow-pos d) (pow-pos 1074)
       (eq-of-mul-eq-mul-right (2 ^ 52) (pow-pos 52) (m * 2 ^ 1074) (n * 2 ^ d)
       (mul-assoc m (2 ^ 1074) (2 ^ 52) ∙ ap (λ (i : ℕ). m * i) (sym (pow-add 2 1074 52) ∙ ap (λ (i : ℕ). 2 ^ i) (sym e) ∙ pow-add 2 w d) ∙ sym (mul-assoc m (2 ^ w) (2 ^ d))
       ∙ ap (λ (i : ℕ). i * 2 ^ d) v ∙ swap n (2 ^ 52) (2 ^ d)))

@@ -14,6 +14,7 @@ pub mod NearestRoot
 pub mod SquareRoot
 pub mod Stores
 pub mod Centimetres
+pub mod Halves
 pub mod Refusals
 pub mod Narrowing
 pub mod Formats

@@ -12,15 +12,29 @@ use Rattle.number.specs.declared.grid.Coordinate.the-variants.{On, Off}
 abbrev metres : ℕ → Coordinate
 metres b = placed (centimetres (ofBits binary64 b))
 
--- 0.125 gives 13
-half-up : metres 0x3fc0_0000_0000_0000 ≡ On (pos 13)
+-- 0.125 gives 12
+half-way : metres 0x3fc0_0000_0000_0000 ≡ On (pos 12)
 unfolding placed lib.Ieee.mul ofBits
-half-up = refl
+half-way = refl
 
--- -0.125 gives -13
-half-down : metres 0xbfc0_0000_0000_0000 ≡ On (negsuc 12)
+-- -0.125 gives -12
+half-way-below : metres 0xbfc0_0000_0000_0000 ≡ On (negsuc 11)
 unfolding placed lib.Ieee.mul ofBits
-half-down = refl
+half-way-below = refl
+
+-- 0.005 gives 0, and so does -0.005
+half-a-centimetre : metres 0x3f74_7ae1_47ae_147b ≡ On (pos 0)
+unfolding placed lib.Ieee.mul ofBits
+half-a-centimetre = refl
+
+half-below-zero : metres 0xbf74_7ae1_47ae_147b ≡ On (pos 0)
+unfolding placed lib.Ieee.mul ofBits
+half-below-zero = refl
+
+-- 655.365, whose product is 65,536.5, gives 65,536: the edge is judged on the rounded number
+past-the-edge : metres 0x4084_7aeb_851e_b852 ≡ On (pos 65536)
+unfolding placed lib.Ieee.mul ofBits
+past-the-edge = refl
 
 -- 655 passes
 passes : metres 0x4084_7800_0000_0000 ≡ On (pos 65500)

@@ -1,12 +1,14 @@
--- The survey grid (paper 01, "Grid"): a point in metres becomes whole centimetres. Definitions only.
-use Prim.Native.Nat.{ℕ, _+_, _*_, _/_}
+-- The survey grid (paper 01, "Grid"; paper 02 for halves): a point in metres becomes whole centimetres. Definitions and statements only.
+use mathlib.Core.Path.{_≡_}
+use mathlib.Core.Logic.{_⊎_}
+use Prim.Native.Nat.{ℕ, _+_, _-_, _*_, _/_, _%_, _≤_, _<_}
 use mathlib.Core.Bool.{Bool, true, false, cond, _&&_}
 use mathlib.Core.List.{List, [], _∷_, map}
-use lib.Dec.{leb}
+use lib.Dec.{leb, ltb}
+use lib.IntN.{ℤ, pos, negℤ}
 use lib.Ieee.{Float, nan, inf, fin, binary64, up, down, ofBits, ofInt}
 use Rattle.number.specs.Arithmetic.{_⊗_}
 use Rattle.number.specs.Answer.{Reply, refuse, write, unless, has, leaving}
-use lib.IntN.{ℤ, pos, negℤ}
 use Rattle.number.specs.declared.grid.Coordinate.{Coordinate}
 use Rattle.number.specs.declared.grid.Coordinate.the-variants.{On, Off}
 
@@ -14,9 +16,26 @@ use Rattle.number.specs.declared.grid.Coordinate.the-variants.{On, Off}
 abbrev pub centimetres : Float → Float
 centimetres x = x ⊗ ofBits binary64 0x4059_0000_0000_0000
 
--- "then rounded to the nearest whole number, halves away from zero": a / b is a size, b above 0
+-- "then rounded to the nearest whole number", and halves "to the even whole number". Of a size a / b, b above 0, the whole part q stays where less than a
+-- half is left, the next follows where more is, and where just a half is left, the even one of the two.
 abbrev pub wholeNearest : ℕ → ℕ → ℕ
-wholeNearest a b = (2 * a + b) / (2 * b)
+wholeNearest a b =
+    let q = a / b in
+    let twice = a % b * 2 in
+    cond (ltb twice b) q (cond (ltb b twice) (q + 1) (q + q % 2))
+
+-- how far apart two whole numbers are
+abbrev pub apart : ℕ → ℕ → ℕ
+apart x y = x - y + (y - x)
+
+-- No whole number is nearer to a / b than n is, and where another is as near, n is even; multiplied through by b.
+pub record NearestEven (a b n : ℕ) : Type 0 where
+  pub nearest : (m : ℕ) → apart a (n * b) ≤ apart a (m * b)
+  pub even : (m : ℕ) → apart a (n * b) ≡ apart a (m * b) → (m ≡ n) ⊎ (n % 2 ≡ 0)
+
+-- what the rule means
+abbrev pub RoundsToEven : Type 0
+RoundsToEven = (a b : ℕ) → 0 < b → NearestEven a b (wholeNearest a b)
 
 -- n with the sign s, negative where s is true; either zero is 0
 abbrev pub signed : Bool → ℕ → ℤ

@@ -1,10 +1,10 @@
 // The survey grid: metres to whole centimetres.
 ghost use mathlib.Core.Path.{_≡_};
-ghost use Prim.Native.Nat.{_<_, _^_};
 ghost use Rattle.number.specs.Answer.{reply};
-ghost use Rattle.number.specs.Grid.{centimetres, placed, wholeNearest, gridCall};
+ghost use Rattle.number.specs.Grid.{placed, gridCall};
 use crate::answer::Refusal;
 use crate::answer::Written;
+use crate::nearest;
 use crate::normalised;
 use crate::slice::at;
 use crate::slice::store;
@@ -15,15 +15,7 @@ pub enum Coordinate {
     Off,
 }
 
-// m / 2 ^ d to the nearest whole number, a half up.
-fn half_up(m: u64, d: u64) -> u64
-    requires { ⌜ (0 < d) × (d < 64) × (m < 2 ^ 62) ⌝ }
-    ensures { λ r. ⌜ r ≡ wholeNearest m (2 ^ d) ⌝ }
-{
-    (m + (1 << (d - 1))) >> d
-}
-
-// The whole coordinate nearest to a number of centimetres.
+// The whole coordinate nearest to a number of centimetres, of two the even one.
 pub fn whole(x: f64) -> Coordinate
     ensures { λ r. ⌜ r ≡ placed x ⌝ }
 {
@@ -42,7 +34,7 @@ pub fn whole(x: f64) -> Coordinate
     }
     let parts = normalised(magnitude);
     let scale = parts.scale;
-    let size = half_up(parts.significand, 1126 - scale);
+    let size = nearest(parts.significand, 1126 - scale);
     if 65536 < size {
         return Coordinate::Off;
     }

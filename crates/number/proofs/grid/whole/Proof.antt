@@ -12,6 +12,7 @@ use lib.IntN.{ℤ, pos, negsuc, negℤ, _-ℤ_, +ℤ-idl}
 use lib.Pow.{pow-pos, pow-add}
 use lib.Ieee.{Float, binary64, isNan, fits}
 use lib.Ieee.Bits.{is-true}
+use lib.Ieee.Nearest.{closest}
 use mir.Syntax.{w32}
 use mir.Val.{SFits, toZ, sel}
 use mir.ValLaws.{toZ-ofZ}
@@ -76,7 +77,7 @@ normalised-requires c κs = search needs
 record Scaled (b : ℕ) (m w : ℕ) : Type 0 where
   least : 1073 ≤ w
   most : w < 1091
-  same : wholeNearest m (2 ^ (1126 - w)) ≡ wholeNearest (unitsOf binary64 b) (2 ^ 1074)
+  same : closest m (2 ^ (1126 - w)) ≡ wholeNearest (unitsOf binary64 b) (2 ^ 1074)
 
 scaled : (c : tie.After-normalised) → Scaled (mag (c .before .before .before .before .args .x)) (c .normalised .result .significand) (c .normalised .result .scale)
 scaled c =
@@ -88,32 +89,32 @@ scaled c =
     let hi = scale-lt (p .significand) (p .scale) n (h .leading) (h .digits) (h .value) 1091 (units-lt b 1039 (c .before .before .if2 .left)) in
     record { least = lo; most = hi; same = same-fraction (p .significand) (p .scale) n (h .leading) (h .digits) (h .value) (1126 - p .scale) (omega arith) }
 
-sub-half-up : tie.Need-sub-half-up
-sub-half-up c = let s = scaled c in omega (arith, s .most)
+sub-nearest : tie.Need-sub-nearest
+sub-nearest c = let s = scaled c in omega (arith, s .most)
 
-half-up-requires : tie.Need-half-up-requires
-half-up-requires c κs = let s = scaled c in (omega (arith, s .most), omega (arith, s .least), omega (arith, c .normalised .ensures .digits))
+nearest-requires : tie.Need-nearest-requires
+nearest-requires c κs = let s = scaled c in (omega (arith, s .most), omega (arith, s .least), omega (arith, c .normalised .ensures .digits))
 
-size-is : (c : tie.After-half-up) → c .half-up .result ≡ rounded (c .before .before .before .before .before .args .x)
-size-is c = c .half-up .ensures ∙ scaled (c .before) .same
+size-is : (c : tie.After-nearest) → c .nearest .result ≡ rounded (c .before .before .before .before .before .args .x)
+size-is c = c .nearest .ensures ∙ scaled (c .before) .same
 
 returns-4 : tie.Need-returns-4
 returns-4 c =
     let x = c .before .before .before .before .before .before .args .x in
     off (sign x) _ (c .if4 .taken)
-    ∙ between x (search needs) (not-nan x (c .before .before .before .before .before .if1 .left)) (sign x) (c .before .half-up .result) (c .before .before .before .before .if2 .left) refl (size-is (c .before))
+    ∙ between x (search needs) (not-nan x (c .before .before .before .before .before .if1 .left)) (sign x) (c .before .nearest .result) (c .before .before .before .before .if2 .left) refl (size-is (c .before))
 
 cast-t9 : tie.Need-cast-t9
 cast-t9 c = search needs
 
 sub-t10 : tie.Need-sub-t10
-sub-t10 c = let k = c .before .before .half-up .result in subst (SFits w32) (sym (minus-is k (c .before .if4 .left))) (minus-fits k (c .before .if4 .left))
+sub-t10 c = let k = c .before .before .nearest .result in subst (SFits w32) (sym (minus-is k (c .before .if4 .left))) (minus-fits k (c .before .if4 .left))
 
 returns-5 : tie.Need-returns-5
 returns-5 c =
     let x = c .before .before .before .before .before .before .before .args .x in
     let n = not-nan x (c .before .before .before .before .before .before .if1 .left) in
-    let k = c .before .before .half-up .result in
+    let k = c .before .before .nearest .result in
     ap On (toZ-ofZ w32 _ (sub-t10 c) ∙ minus-is k (c .before .if4 .left))
     ∙ on true k (c .before .if4 .left)
     ∙ between x (search needs) n true k (c .before .before .before .before .before .if2 .left) (sign-set x (search needs) n (c .if5 .taken)) (size-is (c .before .before))
@@ -125,7 +126,7 @@ returns-6 : tie.Need-returns-6
 returns-6 c =
     let x = c .before .before .before .before .before .before .before .args .x in
     let n = not-nan x (c .before .before .before .before .before .before .if1 .left) in
-    let k = c .before .before .half-up .result in
+    let k = c .before .before .nearest .result in
     ap On (to-integer k (c .before .if4 .left))
     ∙ on false k (c .before .if4 .left)
     ∙ between x (search needs) n false k (c .before .before .before .before .before .if2 .left) (sign-clear x (search needs) n (c .if5 .left)) (size-is (c .before .before))
@@ -133,4 +134,4 @@ returns-6 c =
 pub whole-spec : {M : Type 1} → statement M
 whole-spec =
     tie.close
-    (tie.spec returns float-to-bits-bits returns-2 returns-3 normalised-requires sub-half-up half-up-requires returns-4 cast-t9 sub-t10 returns-5 cast-t11 returns-6)
+    (tie.spec returns float-to-bits-bits returns-2 returns-3 normalised-requires sub-nearest nearest-requires returns-4 cast-t9 sub-t10 returns-5 cast-t11 returns-6)

@@ -1,0 +1,108 @@
+-- What the grid operation accepts is a grid point. The idea: it is accepted only where all three coordinates are on the grid, and a whole number of that
+-- size is a float without rounding.
+use mathlib.Core.Path.{_≡_, refl, sym, ap, subst}
+use mathlib.Core.Bool.{Bool, true, false, cond, false≢true}
+use mathlib.Core.List.{List, [], _∷_, map}
+use Prim.Native.Nat.{ℕ, zero, suc, _*_, _≤_, _<_}
+use native.Mathlib.Omega.{arith}
+use lib.Dec.{T, leb, leb→le, eqb→eq}
+use lib.ListN.{length}
+use lib.IntN.{ℤ, pos, natAbs}
+use lib.Ieee.{Float, nan, inf, fin, binary64, up, down}
+use Rattle.number.specs.Answer.{Reply, refuse, write, unless, has, leaving}
+use Rattle.number.specs.Grid.{centimetres, wholeNearest, signed, gridLimit, placed, onGrid, wholeOf, coordinates, every, gridCall}
+use Rattle.number.specs.Slice.{at}
+use Rattle.number.specs.declared.grid.Coordinate.{Coordinate}
+use Rattle.number.specs.declared.grid.Coordinate.the-variants.{On, Off}
+use Rattle.farmgrid.specs.Whole.{Whole}
+use Rattle.farmgrid.specs.Placement.{gridSize}
+use Rattle.farmgrid.specs.Survey.{GridPointOf, SurveyExact}
+use Rattle.farmgrid.proofs.Exact.{abs-signed, of-whole}
+
+-- ---- one coordinate
+
+abbrev wholeAt : Coordinate → ℤ
+wholeAt (On z) = z
+wholeAt Off = pos 0
+
+-- what is on the grid is no larger than its limit
+limited : (x : Float) (z : ℤ) → placed x ≡ On z → natAbs z ≤ gridSize
+unfolding placed
+limited nan z e = absurd (false≢true (ap onGrid e))
+limited (inf s) z e = absurd (false≢true (ap onGrid e))
+limited (fin s m e) z h = go (leb n gridLimit) (leb→le n gridLimit) h
+  where
+    n : ℕ
+    n = wholeNearest (m * up e) (down e)
+
+    go : (b : Bool) → (T b → n ≤ gridLimit) → cond b (On (signed s n)) Off ≡ On z → natAbs z ≤ gridSize
+    go true l k = subst (λ (y : ℤ). natAbs y ≤ gridSize) (ap wholeAt k) (subst (λ (i : ℕ). i ≤ gridSize) (sym (abs-signed s n)) (l tt))
+    go false l k = absurd (false≢true (ap onGrid k))
+
+-- ---- three of them
+
+-- one of three, by its number
+abbrev three : {A : Type 0} → A → A → A → ℕ → A
+three a b c zero = a
+three a b c (suc zero) = b
+three a b c (suc (suc i)) = c
+
+below-three : (K : ℕ → Type 0) → K 0 → K 1 → K 2 → (i : ℕ) → i < 3 → K i
+below-three K a b c zero h = a
+below-three K a b c (suc zero) h = b
+below-three K a b c (suc (suc zero)) h = c
+below-three K a b c (suc (suc (suc i))) h = absurd (omega arith)
+
+module _ (x y z : Float) (out : List Float) where
+  abbrev p : List Float
+  p = x ∷ y ∷ z ∷ []
+
+  abbrev answer : Bool → Bool → List Coordinate → Reply
+  answer inputs room cs = unless inputs (refuse 1 out) (unless room (refuse 2 out) (unless (every cs) (refuse 7 out) (write (map wholeOf cs))))
+
+  accepted : (i r : Bool) (a b c : Coordinate) → placed (centimetres x) ≡ a → placed (centimetres y) ≡ b → placed (centimetres z) ≡ c
+      → answer i r (a ∷ b ∷ c ∷ []) .status ≡ 0 → GridPointOf p (answer i r (a ∷ b ∷ c ∷ []) .out)
+  accepted false r a b c f g h e = absurd (omega (arith, e))
+  accepted true false a b c f g h e = absurd (omega (arith, e))
+  accepted true true Off b c f g h e = absurd (omega (arith, e))
+  accepted true true (On u) Off c f g h e = absurd (omega (arith, e))
+  accepted true true (On u) (On v) Off f g h e = absurd (omega (arith, e))
+  accepted true true (On u) (On v) (On w) f g h e =
+      let A = limited _ u f in
+      let B = limited _ v g in
+      let C = limited _ w h in
+      record {
+        point = three u v w;
+        rule = below-three (λ i. placed (centimetres (at p i)) ≡ On (three u v w i)) f g h;
+        left = record {
+          numbers = refl;
+          point = record {
+            numbers = record {
+              at = below-three (λ i. Whole (at (wholeOf (On u) ∷ wholeOf (On v) ∷ wholeOf (On w) ∷ []) i) (three u v w i))
+                  (of-whole binary64 u (omega (arith, A))) (of-whole binary64 v (omega (arith, B))) (of-whole binary64 w (omega (arith, C)));
+            };
+            grid = record { size = below-three (λ i. natAbs (three u v w i) ≤ gridSize) A B C };
+          };
+        };
+      }
+
+-- a slice of another length is refused
+short : (p out : List Float) → (length p ≡ 3 → ⊥) → gridCall p out .status ≡ 0 → ⊥
+unfolding gridCall leaving
+short p out n e = go (has 3 p) (eqb→eq (length p) 3) e
+  where
+    rest : Reply
+    rest = unless (has 3 out) (refuse 2 out) (unless (every (coordinates p)) (refuse 7 out) (write (map wholeOf (coordinates p))))
+
+    go : (b : Bool) → (T b → length p ≡ 3) → unless b (refuse 1 out) rest .status ≡ 0 → ⊥
+    go true l k = n (l tt)
+    go false l k = omega (arith, k)
+
+pub survey-exact : SurveyExact
+unfolding gridCall leaving
+survey-exact [] out e = absurd (short [] out (λ l. omega (arith, l)) e)
+survey-exact (x ∷ []) out e = absurd (short (x ∷ []) out (λ l. omega (arith, l)) e)
+survey-exact (x ∷ y ∷ []) out e = absurd (short (x ∷ y ∷ []) out (λ l. omega (arith, l)) e)
+survey-exact (x ∷ y ∷ z ∷ []) out e =
+    accepted x y z out (has 3 (x ∷ y ∷ z ∷ [])) (has 3 out) (placed (centimetres x)) (placed (centimetres y)) (placed (centimetres z)) refl refl refl e
+survey-exact (x ∷ y ∷ z ∷ w ∷ ws) out e = absurd (short (x ∷ y ∷ z ∷ w ∷ ws) out (λ l. omega (arith, l)) e)
