@@ -1,6 +1,6 @@
 //! Both sides timed on the same inputs in one process.
 
-use crate::op::{Op, Timing};
+use crate::op::{Timed, Timing};
 use std::time::Instant;
 
 /// How many times each side is timed, in turn, and how many passes over the
@@ -9,20 +9,20 @@ const ROUNDS: usize = 41;
 const PASSES: usize = 8;
 
 /// Prints a line for each input set.
-pub fn bench(ops: &[Box<dyn Op>]) {
+pub fn bench(functions: &[Box<dyn Timed>]) {
     println!("{:<35} {:<24} {:>9} {:>9} {:>7}", "function", "inputs", "ours ns", "Rust ns", "ratio");
-    for op in ops {
-        if let Some(note) = op.note() {
-            println!("{:<35} {note}", op.name());
+    for function in functions {
+        if let Some(note) = function.note() {
+            println!("{:<35} {note}", function.name());
         }
-        for mut timing in op.timings() {
+        for mut timing in function.timings() {
             let (mut ours, mut rust) = (Vec::new(), Vec::new());
             for _ in 0..ROUNDS {
                 ours.push(nanoseconds(&mut timing.ours));
                 rust.push(nanoseconds(&mut timing.rust));
             }
             let (ours, rust) = (median(ours), median(rust));
-            println!("{:<35} {:<24} {ours:>9.2} {rust:>9.2} {:>7.2}", op.name(), timing.set, ours / rust);
+            println!("{:<35} {:<24} {ours:>9.2} {rust:>9.2} {:>7.2}", function.name(), timing.set, ours / rust);
         }
     }
 }

@@ -3,7 +3,7 @@
 use crate::inputs::{Draw, Rng, mixed};
 use crate::judge;
 use crate::lent::{INPUTS, Input, Ins, Lent, Shape, Side, Single};
-use crate::op::{Op, Timing};
+use crate::op::{Op, Timed, Timing};
 use crate::trial::{Outcome, Trial};
 use crate::words::{self, Words};
 use std::hint::black_box;
@@ -208,7 +208,7 @@ impl<I: Input> Trial for Call<I> {
         self.of.name.trim_start_matches("gf_")
     }
 
-    fn note(&self) -> Option<&'static str> {
+    fn note(&self) -> Option<&str> {
         self.of.ours.is_none().then_some("not exported yet")
     }
 
@@ -249,11 +249,7 @@ impl<I: Input> Trial for Call<I> {
     }
 }
 
-impl<I: Input> Op for Call<I> {
-    fn code(&self) -> u64 {
-        self.of.code
-    }
-
+impl<I: Input> Timed for Call<I> {
     fn timings<'a>(&'a self) -> Vec<Timing<'a>> {
         let Some(ours) = &self.of.ours else {
             return vec![];
@@ -270,6 +266,12 @@ impl<I: Input> Op for Call<I> {
             Timing { set, ours: Box::new(pass(ours.as_ref())), rust: Box::new(pass(rust.as_ref())) }
         };
         self.sets.iter().map(timing).collect()
+    }
+}
+
+impl<I: Input> Op for Call<I> {
+    fn code(&self) -> u64 {
+        self.of.code
     }
 
     fn vectors(&self) -> Vec<Words> {

@@ -234,7 +234,7 @@ impl Trial for Farm<'_> {
         self.name
     }
 
-    fn note(&self) -> Option<&'static str> {
+    fn note(&self) -> Option<&str> {
         self.lacking.then_some("the Rust alone: not exported yet")
     }
 

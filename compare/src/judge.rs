@@ -15,8 +15,14 @@ pub const SINGULAR: u32 = 4;
 pub const MISS: u32 = 5;
 pub const NO_PROJECTION: u32 = 6;
 pub const OFF_GRID: u32 = 7;
-/// Paper 02's: a number of the result is not finite.
+// Paper 02's.
+
+/// A number of the result is not finite.
 pub const NOT_FINITE: u32 = 8;
+/// No farm file: its directory, or where its sections lie.
+pub const NO_FARM_FILE: u32 = 9;
+/// A section of a farm file is not as long as its record.
+pub const WRONG_SECTION: u32 = 10;
 
 /// Paper 01's rule: equal bits, both NaN, or both zero.
 pub fn matches(judge: f64, ours: f64) -> bool {

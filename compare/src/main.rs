@@ -3,33 +3,47 @@
 //!
 //!     compare run [COUNT] [FUNCTION..]
 //!     compare grid [COUNT]
+//!     compare farm [COUNT]
 //!     compare bench [FUNCTION..]
 //!     compare record [FILE]
+//!     compare record-farm FOLDER
+//!     compare lines
 
 mod bench;
 mod call;
 mod exact;
 mod exported;
+mod farm;
 mod grid;
 mod inputs;
 mod judge;
 mod lent;
 mod op;
 mod ops;
+mod program;
+mod reader;
 mod record;
 mod run;
 mod rust;
 mod scalar;
+#[cfg(test)]
+mod slips;
 mod trial;
 mod words;
 
-use op::Op;
+use farm::Farm;
+use op::Timed;
+use program::Program;
+use std::fs::File;
+use std::io::{self, BufWriter, Read};
+use std::path::Path;
 use std::process::ExitCode;
-use std::{env, fs, io};
+use std::{env, iter};
 use trial::Trial;
 
-/// Cases for each function where no count is given.
+/// Cases for each function where no count is given, and farm files.
 const COUNT: u64 = 2_000_000;
+const FILES: u64 = 10_000_000;
 
 fn main() -> ExitCode {
     let words: Vec<String> = env::args().skip(1).collect();
@@ -38,13 +52,17 @@ fn main() -> ExitCode {
         ["record"] => recorded(None),
         ["record", path] => recorded(Some(path)),
         ["record", ..] => Err(String::from("record [FILE]")),
-        ["bench", ref names @ ..] => chosen(names).map(|ops| {
-            bench::bench(&ops);
+        ["record-farm", folder] => recorded_files(Path::new(folder)),
+        ["record-farm", ..] => Err(String::from("record-farm FOLDER")),
+        ["lines"] => lines(),
+        ["bench", ref names @ ..] => chosen(names).map(|functions| {
+            bench::bench(&functions);
             true
         }),
         ["run", ref rest @ ..] => compared(rest),
         ["grid", ref rest @ ..] => checked(rest),
-        _ => Err(String::from("run | grid | bench | record")),
+        ["farm", ref rest @ ..] => read(rest),
+        _ => Err(String::from("run | grid | farm | bench | record | record-farm | lines")),
     };
     match done {
         Ok(true) => ExitCode::SUCCESS,
@@ -57,14 +75,14 @@ fn main() -> ExitCode {
 }
 
 fn compared(words: &[&str]) -> Result<bool, String> {
-    let (count, names) = counted(words)?;
-    let ops = chosen(names)?;
-    run::name_unknown(&ops::all());
-    Ok(run::run(ops.iter().map(|op| op.as_ref() as &dyn Trial), count, seed()?))
+    let (count, names) = counted(words, COUNT)?;
+    let functions = chosen(names)?;
+    run::name_unknown(&all());
+    Ok(run::run(functions.iter().map(|function| function.as_ref() as &dyn Trial), count, seed()?))
 }
 
 fn checked(words: &[&str]) -> Result<bool, String> {
-    let (count, []) = counted(words)? else {
+    let (count, []) = counted(words, COUNT)? else {
         return Err(String::from("grid [COUNT]"));
     };
     let ops = ops::all();
@@ -72,13 +90,23 @@ fn checked(words: &[&str]) -> Result<bool, String> {
     Ok(run::run(trials.iter().map(|trial| trial as &dyn Trial), count, seed()?))
 }
 
+/// Farm files by the archive's reader and by the program.
+fn read(words: &[&str]) -> Result<bool, String> {
+    let (count, []) = counted(words, FILES)? else {
+        return Err(String::from("farm [COUNT]"));
+    };
+    let program = env::var_os("FARM_FILE").ok_or("FARM_FILE names the program")?;
+    let trials: [&dyn Trial; 2] = [&Farm::of_archive(), &Program::at(program.into())];
+    Ok(run::run(trials.into_iter(), count, seed()?))
+}
+
 /// The count that may come first, and the words after it.
-fn counted<'a, 'b>(words: &'a [&'b str]) -> Result<(u64, &'a [&'b str]), String> {
+fn counted<'a, 'b>(words: &'a [&'b str], usual: u64) -> Result<(u64, &'a [&'b str]), String> {
     match words {
         [first, rest @ ..] if first.starts_with(|c: char| c.is_ascii_digit()) => {
             Ok((first.parse().map_err(|_| "COUNT is a whole number")?, rest))
         }
-        rest => Ok((COUNT, rest)),
+        rest => Ok((usual, rest)),
     }
 }
 
@@ -86,23 +114,46 @@ fn seed() -> Result<u64, String> {
     env::var("SEED").map_or(Ok(1), |seed| seed.parse().map_err(|_| String::from("SEED is a whole number")))
 }
 
-/// The operations of these names, or all.
-fn chosen(names: &[&str]) -> Result<Vec<Box<dyn Op>>, String> {
-    let mut ops = ops::all();
-    if let Some(unknown) = names.iter().find(|name| ops.iter().all(|op| op.name() != **name)) {
+/// All exported functions.
+fn all() -> Vec<Box<dyn Timed>> {
+    let ops = ops::all().into_iter().map(|op| op as Box<dyn Timed>);
+    ops.chain(iter::once(Box::new(Farm::of_archive()) as Box<dyn Timed>)).collect()
+}
+
+/// The functions of these names, or all.
+fn chosen(names: &[&str]) -> Result<Vec<Box<dyn Timed>>, String> {
+    let mut functions = all();
+    if let Some(unknown) = names.iter().find(|name| functions.iter().all(|function| function.name() != **name)) {
         return Err(format!("no function {unknown}"));
     }
-    ops.retain(|op| names.is_empty() || names.contains(&op.name()));
-    Ok(ops)
+    functions.retain(|function| names.is_empty() || names.contains(&function.name()));
+    Ok(functions)
 }
 
 fn recorded(path: Option<&str>) -> Result<bool, String> {
     let to: io::Result<Box<dyn io::Write>> = match path {
-        Some(path) => fs::File::create(path).map(|file| Box::new(io::BufWriter::new(file)) as _),
+        Some(path) => File::create(path).map(|file| Box::new(BufWriter::new(file)) as _),
         None => Ok(Box::new(io::stdout().lock())),
     };
     let written = to.and_then(|mut to| record::write(&ops::all(), &mut to));
     let vectors = written.map_err(|error| format!("{}: {error}", path.unwrap_or("standard output")))?;
     eprintln!("{vectors} vectors");
+    Ok(true)
+}
+
+/// The files and lines of the program that replays farm files.
+fn recorded_files(folder: &Path) -> Result<bool, String> {
+    let create = |name: &str| File::create(folder.join(name)).map(BufWriter::new);
+    let written = create("stdin").and_then(|mut files| record::write_files(&mut files, &mut create("stdout")?));
+    let files = written.map_err(|error| format!("{}: {error}", folder.display()))?;
+    eprintln!("{files} farm files");
+    Ok(true)
+}
+
+/// The judge's lines for the farm file at standard input.
+fn lines() -> Result<bool, String> {
+    let mut file = vec![];
+    io::stdin().lock().read_to_end(&mut file).map_err(|error| format!("standard input: {error}"))?;
+    print!("{}", reader::lines(&file));
     Ok(true)
 }

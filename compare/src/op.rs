@@ -24,13 +24,16 @@ impl Timing<'_> {
 }
 
 /// An exported function and its judge.
-pub trait Op: Trial {
-    /// Its code in the recorded answers.
-    fn code(&self) -> u64;
-
+pub trait Timed: Trial {
     /// Input sets with both sides to be timed on them; none if the archive
     /// lacks the function.
     fn timings(&self) -> Vec<Timing<'_>>;
+}
+
+/// One whose answers are recorded as words.
+pub trait Op: Timed {
+    /// Its code in the recorded answers.
+    fn code(&self) -> u64;
 
     /// Recorded answers, the judge's alone.
     fn vectors(&self) -> Vec<Words>;

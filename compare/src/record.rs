@@ -2,6 +2,7 @@
 //! the low byte first. README.md has their form.
 
 use crate::op::Op;
+use crate::{inputs, reader};
 use std::io::{self, Write};
 use std::iter;
 
@@ -20,8 +21,23 @@ pub fn write(ops: &[Box<dyn Op>], to: &mut dyn Write) -> io::Result<usize> {
     Ok(vectors)
 }
 
+/// Writes the notable farm files, each after its size, and what is to be
+/// printed for them, and tells how many there are.
+pub fn write_files(files: &mut dyn Write, lines: &mut dyn Write) -> io::Result<usize> {
+    let notable = inputs::notable_files();
+    for (place, file) in notable.iter().enumerate() {
+        files.write_all(&(file.bytes.len() as u32).to_le_bytes())?;
+        files.write_all(&file.bytes)?;
+        write!(lines, "file {}\n{}", place + 1, reader::lines(&file.bytes))?;
+    }
+    files.flush()?;
+    lines.flush()?;
+    Ok(notable.len())
+}
+
 #[cfg(test)]
 mod tests {
+    use super::*;
     use crate::ops;
     use std::collections::BTreeSet;
 
@@ -51,5 +67,13 @@ mod tests {
                 assert!(seen.contains(&(0, Some(0))) && seen.contains(&(0, Some(1))), "{}", op.name());
             }
         }
+    }
+
+    /// All of it is read in the gate.
+    #[test]
+    fn recorded_files_are_few() {
+        let (mut files, mut lines) = (vec![], vec![]);
+        write_files(&mut files, &mut lines).expect("memory is written to");
+        assert!(files.len() < 400_000, "{} bytes", files.len());
     }
 }

@@ -1,13 +1,13 @@
 //! The comparison of all operations, on all cores.
 
-use crate::op::Op;
+use crate::op::Timed;
 use crate::trial::{Outcome, Tally, Trial};
 use std::sync::Mutex;
 use std::sync::atomic::{AtomicU64, Ordering};
 use std::thread;
 use std::time::Instant;
 
-/// How many cases a thread takes at a time.
+/// How many cases a thread takes at a time, at most.
 const CHUNK: u64 = 1 << 12;
 
 /// Prints a line for each trial, and tells whether all agree.
@@ -43,24 +43,25 @@ pub fn run<'a>(trials: impl Iterator<Item = &'a dyn Trial>, count: u64, seed: u6
     good
 }
 
-/// Names the archive's functions that no operation here is.
-pub fn name_unknown(ops: &[Box<dyn Op>]) {
-    let known = |name: &str| ops.iter().any(|op| Some(op.name()) == name.strip_prefix("gf_"));
+/// Names the archive's functions that none here is.
+pub fn name_unknown(functions: &[Box<dyn Timed>]) {
+    let known = |name: &str| functions.iter().any(|function| Some(function.name()) == name.strip_prefix("gf_"));
     for name in env!("GF_EXPORTED").split_whitespace().filter(|name| !known(name)) {
         println!("{name} is exported, and unknown here");
     }
 }
 
 fn compare(trial: &dyn Trial, cases: u64, seed: u64) -> Tally {
+    let chunk = CHUNK.min(cases / 64 + 1);
     let next = AtomicU64::new(0);
     let all = Mutex::new(Tally::default());
     let work = || {
         loop {
-            let from = next.fetch_add(CHUNK, Ordering::Relaxed);
+            let from = next.fetch_add(chunk, Ordering::Relaxed);
             if from >= cases {
                 return;
             }
-            let tally = trial.compare(from..cases.min(from + CHUNK), seed);
+            let tally = trial.compare(from..cases.min(from + chunk), seed);
             all.lock().expect("no thread panics").add(tally);
         }
     };

@@ -2,7 +2,7 @@
 
 use crate::inputs::{Draw, Rng};
 use crate::lent::Side;
-use crate::op::{Op, Timing};
+use crate::op::{Op, Timed, Timing};
 use crate::trial::{Outcome, Trial};
 use crate::words::{self, Words, shown, shown_narrow};
 use std::hint::black_box;
@@ -163,7 +163,7 @@ impl Trial for Scalar {
         self.name
     }
 
-    fn note(&self) -> Option<&'static str> {
+    fn note(&self) -> Option<&str> {
         self.ours.is_none().then_some("not exported yet")
     }
 
@@ -195,11 +195,7 @@ impl Trial for Scalar {
     }
 }
 
-impl Op for Scalar {
-    fn code(&self) -> u64 {
-        self.code
-    }
-
+impl Timed for Scalar {
     fn timings(&self) -> Vec<Timing<'_>> {
         let Some(ours) = self.ours else {
             return vec![];
@@ -214,6 +210,12 @@ impl Op for Scalar {
             Timing { set, ours: Box::new(pass(ours)), rust: Box::new(pass(self.rust)) }
         };
         self.sets.iter().map(timing).collect()
+    }
+}
+
+impl Op for Scalar {
+    fn code(&self) -> u64 {
+        self.code
     }
 
     fn vectors(&self) -> Vec<Words> {

@@ -7,7 +7,7 @@ use std::ops::Range;
 pub struct Outcome;
 
 impl Outcome {
-    pub const NAMES: [&'static str; 16] = [
+    pub const NAMES: [&'static str; 18] = [
         "done",
         "refused 1",
         "refused 2",
@@ -17,6 +17,8 @@ impl Outcome {
         "refused 6",
         "refused 7",
         "refused 8",
+        "refused 9",
+        "refused 10",
         "no",
         "yes",
         "zero",
@@ -25,10 +27,10 @@ impl Outcome {
         "infinite",
         "NaN",
     ];
-    pub const NO: usize = 9;
-    pub const YES: usize = 10;
+    pub const NO: usize = 11;
+    pub const YES: usize = 12;
     /// The first of the kinds of number.
-    pub const NUMBER: usize = 11;
+    pub const NUMBER: usize = 13;
 }
 
 /// How many differing cases are described.
@@ -62,7 +64,7 @@ pub trait Trial: Sync {
     fn name(&self) -> &'static str;
 
     /// What is to be said of the archive, if it lacks something.
-    fn note(&self) -> Option<&'static str>;
+    fn note(&self) -> Option<&str>;
 
     /// How many cases to try where `count` are asked for.
     fn cases(&self, count: u64) -> u64;

@@ -3,6 +3,8 @@
 
 mod camera;
 mod farm;
+mod file;
+mod notable_file;
 mod number;
 mod solid;
 mod space;
@@ -10,6 +12,8 @@ mod view;
 
 pub use camera::*;
 pub use farm::*;
+pub use file::*;
+pub use notable_file::*;
 pub use number::*;
 pub use solid::*;
 pub use space::*;

@@ -3,8 +3,8 @@
 use super::*;
 use crate::rust;
 use openusd::gf;
-use std::array;
 use std::sync::LazyLock;
+use std::{array, iter};
 
 pub type Volume = [f64; 48];
 
@@ -246,6 +246,18 @@ pub fn volume_and_box(rng: &mut Rng) -> (Volume, Boxed) {
     (view.volume, box_at(rng, &view))
 }
 
+/// A volume and boxes to look for in it, as a farm file has them.
+pub fn volume_and_boxes(rng: &mut Rng, count: usize) -> (Volume, Vec<Boxed>) {
+    if rng.once_in(5) {
+        let (planes, first) = farm_box_view(rng);
+        let others = (1..count).map(|_| farm_box(rng).record());
+        return (farm_volume(&planes), iter::once(first.record()).chain(others).collect());
+    }
+    let view = view(rng);
+    let boxes = (0..count).map(|_| if rng.once_in(6) { boxed(rng) } else { box_at(rng, &view) });
+    (view.volume, boxes.collect())
+}
+
 /// A box and a matrix into clip space, whose sides the box often touches.
 pub fn box_and_view(rng: &mut Rng) -> (Boxed, Matrix) {
     let view_projection = |rng: &mut Rng| {
@@ -281,12 +293,28 @@ pub fn box_and_view(rng: &mut Rng) -> (Boxed, Matrix) {
 /// A frustum's volume and things about it, as a view is asked.
 pub fn asked(rng: &mut Rng) -> (Volume, Point, Point, Point, Boxed) {
     let view = FRUSTUMS[rng.below(FRUSTUMS.len() as u64) as usize];
-    let about = |rng: &mut Rng| {
-        let a = mix(rng.pick(&view.corners), rng.pick(&view.corners), rng.between(-0.5, 1.5));
-        mix(a, rng.pick(&view.corners), rng.between(-0.5, 1.5))
+    let points = [(); 3].map(|_| about(rng, &view));
+    let placed = placed_at(points[0], placement(rng));
+    (view.volume, points[0], points[1], points[2], box_of(ordinary_range(rng), placed, 0.0))
+}
+
+/// A frustum's volume and boxes about it, placed in one way.
+pub fn boxes_asked(rng: &mut Rng, count: usize, placement: fn(&mut Rng) -> Matrix) -> (Volume, Vec<Boxed>) {
+    let view = FRUSTUMS[rng.below(FRUSTUMS.len() as u64) as usize];
+    let one = |_| {
+        let placed = placed_at(about(rng, &view), placement(rng));
+        box_of(ordinary_range(rng), placed, 0.0)
     };
-    let points = [(); 3].map(|_| about(rng));
-    let m = placement(rng);
-    let m = with(m, &[(12, points[0][0]), (13, points[0][1]), (14, points[0][2])]);
-    (view.volume, points[0], points[1], points[2], box_of(ordinary_range(rng), m, 0.0))
+    (view.volume, (0..count).map(one).collect())
+}
+
+/// A point in the view or not far from it.
+fn about(rng: &mut Rng, view: &View) -> Point {
+    let a = mix(rng.pick(&view.corners), rng.pick(&view.corners), rng.between(-0.5, 1.5));
+    mix(a, rng.pick(&view.corners), rng.between(-0.5, 1.5))
+}
+
+/// A placement with another translation.
+fn placed_at([x, y, z]: Point, placement: Matrix) -> Matrix {
+    with(placement, &[(12, x), (13, y), (14, z)])
 }

@@ -1,0 +1,191 @@
+//! The program that reads a farm file at its standard input: all that it
+//! prints, against the judge's lines.
+
+use crate::farm::described;
+use crate::inputs::{self, FarmFile, Rng};
+use crate::reader::{self, LARGEST};
+use crate::trial::Trial;
+use std::fs::{self, File};
+use std::io::{self, Seek, Write};
+use std::path::PathBuf;
+use std::process::{Child, ChildStdin, Command, Stdio};
+use std::sync::LazyLock;
+
+pub struct Program {
+    path: PathBuf,
+    /// What is said where there is no such program.
+    missing: Option<String>,
+}
+
+impl Program {
+    pub fn at(path: PathBuf) -> Program {
+        let missing = (!path.is_file())
+            .then(|| format!("not run: there is no program {} (FARM_FILE names another)", path.display()));
+        Program { path, missing }
+    }
+
+    fn draw(&self, case: u64, mut rng: Rng) -> FarmFile {
+        let mut file = FarmFile::default();
+        match FIXED.get(case as usize) {
+            Some(bytes) => file.bytes.clone_from(bytes),
+            None => inputs::farm_file(&mut rng, &mut file),
+        }
+        file
+    }
+
+    /// What is expected for a file, and what the program prints.
+    fn made(&self, case: u64, rng: Rng) -> (Vec<u8>, String, Result<String, String>) {
+        let file = self.draw(case, rng).bytes;
+        let printed = if file.len() == ENDLESS {
+            self.given_without_end(&file)
+        } else if case.is_multiple_of(4) {
+            self.given_as_a_file(&file)
+        } else {
+            self.given_in_pieces(&file, case)
+        };
+        let expected = reader::lines(&file);
+        (file, expected, printed.unwrap_or_else(|error| Err(error.to_string())))
+    }
+
+    fn start(&self, input: Stdio) -> io::Result<Child> {
+        Command::new(&self.path).stdin(input).stdout(Stdio::piped()).stderr(Stdio::piped()).spawn()
+    }
+
+    /// As in `program < file`.
+    fn given_as_a_file(&self, bytes: &[u8]) -> io::Result<Result<String, String>> {
+        let mut file = unnamed_file()?;
+        file.write_all(bytes)?;
+        file.rewind()?;
+        printed(self.start(file.into())?)
+    }
+
+    /// Through a pipe, whole or in pieces.
+    fn given_in_pieces(&self, bytes: &[u8], case: u64) -> io::Result<Result<String, String>> {
+        let mut child = self.start(Stdio::piped())?;
+        let mut input = child.stdin.take().expect("it is piped");
+        let piece = match case % 4 {
+            1 => bytes.len().max(1),
+            2 => bytes.len() / 3 + 1,
+            // The first number comes in two pieces.
+            _ => 3,
+        };
+        for piece in bytes.chunks(piece).take(4).chain([bytes.get(4 * piece..).unwrap_or(&[])]) {
+            write(&mut input, piece)?;
+            std::thread::yield_now();
+        }
+        drop(input);
+        printed(child)
+    }
+
+    /// Much more than a file may have, and the end comes only after a look at
+    /// how much of it the program keeps.
+    fn given_without_end(&self, bytes: &[u8]) -> io::Result<Result<String, String>> {
+        let mut child = self.start(Stdio::piped())?;
+        let mut input = child.stdin.take().expect("it is piped");
+        write(&mut input, bytes)?;
+        let kept = most_memory(child.id());
+        drop(input);
+        let text = printed(child)?;
+        Ok(match kept {
+            Some(kilobytes) if kilobytes > MOST_KILOBYTES => Err(format!("it has {kilobytes} KB in memory")),
+            _ => text,
+        })
+    }
+}
+
+/// Writes to a program, which need not read it all.
+fn write(input: &mut ChildStdin, bytes: &[u8]) -> io::Result<()> {
+    match input.write_all(bytes) {
+        Err(error) if error.kind() != io::ErrorKind::BrokenPipe => Err(error),
+        _ => Ok(()),
+    }
+}
+
+/// All that a program prints until it ends, if it ends well and says nothing
+/// else.
+fn printed(child: Child) -> io::Result<Result<String, String>> {
+    let output = child.wait_with_output()?;
+    let text = String::from_utf8_lossy(&output.stdout).into_owned();
+    Ok(if output.status.success() && output.stderr.is_empty() {
+        Ok(text)
+    } else {
+        Err(format!("{text:?}, {}, {:?}", output.status, String::from_utf8_lossy(&output.stderr)))
+    })
+}
+
+/// A file that is gone when it is closed.
+fn unnamed_file() -> io::Result<File> {
+    let name = format!("farm_file.{}.{:?}", std::process::id(), std::thread::current().id());
+    let path = std::env::temp_dir().join(name);
+    let file = File::options().read(true).write(true).create(true).truncate(true).open(&path)?;
+    fs::remove_file(path)?;
+    Ok(file)
+}
+
+/// The most kilobytes that a running program has had in memory.
+fn most_memory(id: u32) -> Option<u64> {
+    let status = fs::read_to_string(format!("/proc/{id}/status")).ok()?;
+    let line = status.lines().find(|line| line.starts_with("VmHWM:"))?;
+    line.split_whitespace().nth(1)?.parse().ok()
+}
+
+/// The input whose end is held back, and how much of it may be in memory.
+const ENDLESS: usize = 64 << 20;
+const MOST_KILOBYTES: u64 = 16 << 10;
+
+/// Files that are always tried.
+static FIXED: LazyLock<Vec<Vec<u8>>> = LazyLock::new(|| {
+    let notable = inputs::notable_files().into_iter().map(|file| file.bytes).collect();
+    // A well-formed file goes on and on.
+    let good = inputs::well_formed(&mut Rng::at(1, 0), 5, true);
+    let longer = [LARGEST + 1, 4 << 20, (7 << 20) + 1, ENDLESS].map(|size| {
+        let mut file = good.clone();
+        file.fill_to(&mut Rng::at(1, 1), size);
+        file.bytes
+    });
+    [notable, inputs::large_files(), inputs::truncated_files(), longer.into()].concat()
+});
+
+/// How many files are drawn besides, at most.
+const DRAWN: u64 = 3000;
+
+impl Trial for Program {
+    fn name(&self) -> &'static str {
+        "program farm_file"
+    }
+
+    fn note(&self) -> Option<&str> {
+        self.missing.as_deref()
+    }
+
+    fn cases(&self, count: u64) -> u64 {
+        if self.missing.is_some() { 0 } else { FIXED.len() as u64 + count.min(DRAWN) }
+    }
+
+    fn agree(&self, case: u64, rng: Rng) -> Option<usize> {
+        let (file, expected, printed) = self.made(case, rng);
+        let status = reader::farm_file(&file, &mut [0; reader::BOXES], &mut 0);
+        (printed == Ok(expected)).then_some(status as usize)
+    }
+
+    fn describe(&self, case: u64, rng: Rng) -> String {
+        let (file, expected, printed) = self.made(case, rng);
+        format!("{}\n      judge {expected:?}\n      ours  {printed:?}", described(&file))
+    }
+}
+
+#[cfg(test)]
+mod tests {
+    use super::*;
+
+    /// Programs that are no reader of farm files, found out by a few files.
+    #[test]
+    fn other_programs_are_found_out() {
+        for path in ["/bin/true", "/bin/false", "/bin/cat"] {
+            let program = Program::at(path.into());
+            let few = FIXED.iter().position(|file| file.len() == LARGEST + 1).expect("one is too large") as u64;
+            assert_eq!(program.compare(0..few, 1).differences, few, "{path}");
+        }
+        assert!(Program::at("/no/such/program".into()).cases(100) == 0);
+    }
+}

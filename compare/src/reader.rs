@@ -1,0 +1,127 @@
+//! The farm file of paper 02, read by its words, with the Rust's verdict on
+//! each box: the judge of `gf_farm_file` and of the program.
+
+use crate::judge::{NO_FARM_FILE, NO_SUCH_VALUE, WRONG_INPUT, WRONG_OUTPUT, WRONG_SECTION};
+use crate::rust::{boxed, planes};
+
+/// How many bytes a farm file has at most.
+pub const LARGEST: usize = 65_536;
+
+/// The bytes of the volume's record, and of a box's.
+pub const VOLUME: usize = 8 * 48;
+pub const BOX: usize = 8 * 23;
+
+/// How many sections a farm file has at least and at most, the volume's
+/// among them.
+pub const SECTIONS: std::ops::RangeInclusive<u32> = 2..=64;
+
+/// How many boxes a farm file has at most.
+pub const BOXES: usize = 63;
+
+/// What fills the slots that no box has.
+pub const NONE: u32 = u32::MAX;
+
+/// The sections of a file, in their order: offset and length, 32 bits each.
+type Directory<'a> = &'a [[u8; 8]];
+
+/// Where a section begins and how long it is, in 64 bits, where their sum
+/// cannot overflow.
+fn section(pair: &[u8; 8]) -> (u64, u64) {
+    let [a, b, c, d, e, f, g, h] = *pair;
+    (u32::from_le_bytes([a, b, c, d]).into(), u32::from_le_bytes([e, f, g, h]).into())
+}
+
+/// The directory of a file whose sections lie behind it, one after another,
+/// in the file.
+fn directory(file: &[u8]) -> Option<Directory<'_>> {
+    let (count, rest) = file.split_first_chunk()?;
+    let count = u32::from_le_bytes(*count);
+    if !SECTIONS.contains(&count) {
+        return None;
+    }
+    let pairs = rest.as_chunks().0.get(..count as usize)?;
+    let mut end = 4 + 8 * u64::from(count);
+    for (offset, length) in pairs.iter().map(section) {
+        if offset < end || offset + length > file.len() as u64 {
+            return None;
+        }
+        end = offset + length;
+    }
+    Some(pairs)
+}
+
+/// The numbers of the record that a section holds.
+fn record<const N: usize>(file: &[u8], pair: &[u8; 8]) -> [f64; N] {
+    let words = file[section(pair).0 as usize..].as_chunks().0;
+    words.first_chunk::<N>().expect("the section is as long").map(f64::from_le_bytes)
+}
+
+/// The sections of the volume and the boxes, or the number of the first check
+/// that fails; each is made over the whole file before the next.
+fn checked(file: &[u8]) -> Result<(&[u8; 8], Directory<'_>), u32> {
+    let (volume, boxes) = directory(file).and_then(|pairs| pairs.split_first()).ok_or(NO_FARM_FILE)?;
+    let holds = |pair: &[u8; 8], length: usize| section(pair).1 == length as u64;
+    if !holds(volume, VOLUME) || !boxes.iter().all(|pair| holds(pair, BOX)) {
+        return Err(WRONG_SECTION);
+    }
+    let flag = |pair: &[u8; 8]| record::<23>(file, pair)[22];
+    if !boxes.iter().all(|pair| matches!(flag(pair), 0.0 | 1.0)) {
+        return Err(NO_SUCH_VALUE);
+    }
+    Ok((volume, boxes))
+}
+
+/// `gf_farm_file`: the verdict on each box in its slot and how many there
+/// are, or the number of a refusal, which leaves both as they were.
+pub fn farm_file(file: &[u8], out: &mut [u32], count: &mut u32) -> u32 {
+    if file.len() > LARGEST {
+        return WRONG_INPUT;
+    }
+    if out.len() != BOXES {
+        return WRONG_OUTPUT;
+    }
+    let (volume, boxes) = match checked(file) {
+        Ok(sections) => sections,
+        Err(refusal) => return refusal,
+    };
+    let view = planes(&record(file, volume));
+    for (slot, pair) in out.iter_mut().zip(boxes) {
+        *slot = view.intersects_bbox(&boxed(&record(file, pair)).expect("its flag is 0 or 1")).into();
+    }
+    out[boxes.len()..].fill(NONE);
+    *count = boxes.len() as u32;
+    0
+}
+
+/// The lines that the program is to print for a file.
+pub fn lines(file: &[u8]) -> String {
+    let (mut out, mut count) = ([0; BOXES], 0);
+    match farm_file(file, &mut out, &mut count) {
+        0 => {
+            let line = |(i, &yes): (usize, &u32)| format!("{} {}\n", i + 1, if yes == 1 { "yes" } else { "no" });
+            out[..count as usize].iter().enumerate().map(line).collect()
+        }
+        refusal => format!("refused {refusal}\n"),
+    }
+}
+
+#[cfg(test)]
+mod tests {
+    use super::*;
+
+    /// The paper's smallest file: the volume and a box in view, written out.
+    #[test]
+    fn one_box_in_view() {
+        let mut file: Vec<u8> = vec![2, 0, 0, 0, 20, 0, 0, 0, 0x80, 1, 0, 0, 0x94, 1, 0, 0, 0xb8, 0, 0, 0];
+        let cube = [[1, 0, 0, 0], [-1, 0, 0, -10], [0, 1, 0, 0], [0, -1, 0, -10], [0, 0, 1, 0], [0, 0, -1, -10]];
+        let rays = [0; 24];
+        let range = [10, 0, 0, 12, 1, 1];
+        let placed = [1, 0, 0, 0, 0, 1, 0, 0, 0, 0, 1, 0, 0, 0, 0, 1, 0];
+        for number in cube.as_flattened().iter().chain(&rays).chain(&range).chain(&placed) {
+            file.extend(f64::from(*number).to_le_bytes());
+        }
+        assert_eq!(lines(&file), "1 yes\n");
+        file[404..412].copy_from_slice(&11_f64.to_le_bytes());
+        assert_eq!(lines(&file), "1 no\n");
+    }
+}

@@ -1,0 +1,311 @@
+//! A second reader of farm files with one slip at a time: each must be found
+//! by the files that are tried.
+
+use crate::farm::{Farm, Reader};
+use crate::inputs::Rng;
+use crate::reader::BOXES;
+use crate::rust::{boxed, planes};
+use crate::trial::Trial;
+use std::ops::Range;
+use std::slice;
+
+macro_rules! slips {
+    ($($slip:ident)*) => {
+        #[derive(Clone, Copy, Debug, PartialEq)]
+        enum Slip {
+            $($slip,)*
+        }
+
+        const ALL: &[Slip] = &[$(Slip::$slip,)*];
+    };
+}
+
+slips! {
+    None
+    // The size, and the room for the result.
+    LargestRefused LargerAllowed SizeAfterDirectory RoomBeforeSize RoomAfterDirectory RoomAfterLengths RoomAfterFlags
+    LongerRoomAllowed ShorterRoomAllowed
+    // The count.
+    CountZeroAllowed CountOneAllowed Count64Refused Count65Allowed CountInAByte CountInTwoBytes CountSigned BigEndian
+    // The directory and where sections lie.
+    ShortFileIsTen
+    SumIn32Bits SumSigned OffsetIn16Bits LengthIn16Bits
+    StartInDirectory StartInDirectoryByOne StartInCount
+    OverlapAllowed OverlapByOne OverlapOfLast OverlapOfFirst Unsorted EqualOffsets StartAtEndRefused
+    EndPassed EndPassedByOne EndPassedByLast EndAtEndRefused
+    EmptySkipped EmptyStartUnchecked EmptyEndUnchecked EmptyAtEndRefused
+    // Lengths.
+    LongerAllowed LongerVolumeAllowed ShorterAllowed LengthInWords VolumeUnchecked LastUnchecked FirstUnchecked
+    EitherLength
+    // Flags.
+    NegativeZeroRefused NanAllowed NonZeroAllowed FlagBits FirstFlagUnchecked LastFlagUnchecked FlagTruncated
+    // The order.
+    SectionBySection LengthsWithPlaces FlagsWithLengths FlagsFirst LengthsFirst
+    // What is read.
+    GapRead GapReadBeforeVolume GapReadAtLast VolumeAtDirectorysEnd BoxByOne
+    // The result.
+    LastNotJudged SlotByOne Inverted UnusedLeft UnusedZero UnusedOneShort CountOfSections CountNotWritten
+    CountOnRefusal OutOnRefusal OutOnFlag FileWritten BesideWritten BesideCountWritten
+}
+
+/// A number of the file, zeros where it has ended.
+fn number(file: &[u8], at: u64, bytes: u64) -> u64 {
+    (0..bytes).rev().fold(0, |number, i| number << 8 | u64::from(*file.get((at + i) as usize).unwrap_or(&0)))
+}
+
+fn record<const N: usize>(file: &[u8], at: u64) -> [f64; N] {
+    std::array::from_fn(|i| f64::from_bits(number(file, at + 8 * i as u64, 8)))
+}
+
+struct Sections {
+    at: Vec<u64>,
+    length: Vec<u64>,
+    size: u64,
+}
+
+/// Whether section `i` lies where it may.
+fn lies_well(slip: Slip, sections: &Sections, i: usize) -> bool {
+    let Sections { at, length, size } = sections;
+    let (count, last) = (at.len() as u64, at.len() - 1);
+    let directory = match slip {
+        Slip::StartInDirectory => 0,
+        Slip::StartInDirectoryByOne => 3 + 8 * count,
+        Slip::StartInCount => 4,
+        _ => 4 + 8 * count,
+    };
+    let sum = |i: usize| match slip {
+        Slip::SumIn32Bits => (at[i] + length[i]) & 0xffff_ffff,
+        Slip::SumSigned => ((at[i] + length[i]) as u32 as i32).max(0) as u64,
+        _ => at[i] + length[i],
+    };
+    let before = match (i, slip) {
+        (0, _) => directory,
+        (_, Slip::OverlapAllowed) => at[i - 1],
+        (_, Slip::OverlapByOne) => sum(i - 1).saturating_sub(1),
+        (_, Slip::OverlapOfLast) if i == last => at[i - 1],
+        (1, Slip::OverlapOfFirst) => at[0],
+        (_, Slip::Unsorted) => directory,
+        (_, Slip::EqualOffsets) if at[i] == at[i - 1] => at[i],
+        (_, Slip::StartAtEndRefused) => sum(i - 1) + 1,
+        _ => sum(i - 1),
+    };
+    let size = match slip {
+        Slip::EndPassed => u64::MAX,
+        Slip::EndPassedByOne => size + 1,
+        Slip::EndPassedByLast if i == last => u64::MAX,
+        Slip::EndAtEndRefused => size - 1,
+        Slip::EmptyEndUnchecked if length[i] == 0 => u64::MAX,
+        Slip::EmptyAtEndRefused if length[i] == 0 => size - 1,
+        _ => *size,
+    };
+    let starts = match slip {
+        Slip::EmptySkipped | Slip::EmptyStartUnchecked if length[i] == 0 => true,
+        _ => before <= at[i],
+    };
+    let ends = (slip == Slip::EmptySkipped && length[i] == 0) || sum(i) <= size;
+    starts && ends
+}
+
+fn has_length(slip: Slip, sections: &Sections, i: usize) -> bool {
+    let (length, wanted) = (sections.length[i], if i == 0 { 384 } else { 184 });
+    match slip {
+        Slip::LongerAllowed => length >= wanted,
+        Slip::LongerVolumeAllowed if i == 0 => length >= wanted,
+        Slip::ShorterAllowed => length <= wanted,
+        Slip::LengthInWords => length / 8 == wanted / 8,
+        Slip::VolumeUnchecked if i == 0 => true,
+        Slip::FirstUnchecked if i == 1 => true,
+        Slip::LastUnchecked if i > 0 && i + 1 == sections.at.len() => true,
+        Slip::EitherLength => length == 384 || length == 184,
+        Slip::EmptySkipped if length == 0 => true,
+        _ => length == wanted,
+    }
+}
+
+fn has_flag(slip: Slip, file: &[u8], sections: &Sections, i: usize) -> bool {
+    let bits = number(file, sections.at[i] + 176, 8);
+    let flag = f64::from_bits(bits);
+    match slip {
+        _ if i == 0 => true,
+        Slip::NegativeZeroRefused => bits == 0 || flag == 1.0,
+        Slip::NanAllowed => flag.is_nan() || flag == 0.0 || flag == 1.0,
+        Slip::NonZeroAllowed => !flag.is_nan(),
+        Slip::FlagBits => bits <= 1 || flag == 0.0 || flag == 1.0,
+        Slip::FirstFlagUnchecked if i == 1 => true,
+        Slip::LastFlagUnchecked if i + 1 == sections.at.len() => true,
+        Slip::FlagTruncated => (0.0..2.0).contains(&flag.trunc()),
+        _ => flag == 0.0 || flag == 1.0,
+    }
+}
+
+/// The sections, where the count may stand and the directory fits.
+fn sections(slip: Slip, file: &[u8]) -> Result<Sections, u32> {
+    let size = file.len() as u64;
+    if size < 4 {
+        return Err(if slip == Slip::ShortFileIsTen { 10 } else { 9 });
+    }
+    let count = match slip {
+        Slip::CountInAByte => number(file, 0, 1),
+        Slip::CountInTwoBytes => number(file, 0, 2),
+        Slip::CountSigned => (number(file, 0, 4) as u32 as i32).unsigned_abs().into(),
+        Slip::BigEndian => (number(file, 0, 4) as u32).swap_bytes().into(),
+        _ => number(file, 0, 4),
+    };
+    let least = match slip {
+        Slip::CountZeroAllowed if count == 0 => return Err(0),
+        Slip::CountOneAllowed => 1,
+        _ => 2,
+    };
+    let most = match slip {
+        Slip::Count64Refused => 63,
+        Slip::Count65Allowed => 65,
+        _ => 64,
+    };
+    if count < least || count > most {
+        return Err(9);
+    }
+    if 4 + 8 * count > size {
+        return Err(9);
+    }
+    let bytes = |slip_of: Slip| if slip == slip_of { 2 } else { 4 };
+    let at = (0..count).map(|i| number(file, 4 + 8 * i, bytes(Slip::OffsetIn16Bits))).collect();
+    let length = (0..count).map(|i| number(file, 8 + 8 * i, bytes(Slip::LengthIn16Bits))).collect();
+    Ok(Sections { at, length, size })
+}
+
+/// Where a section's numbers are read from.
+fn read_from(slip: Slip, sections: &Sections, i: usize) -> u64 {
+    let (at, directory) = (&sections.at, 4 + 8 * sections.at.len() as u64);
+    match slip {
+        Slip::GapRead if i > 0 => at[i - 1] + sections.length[i - 1],
+        Slip::GapReadBeforeVolume if i == 0 => directory,
+        Slip::GapReadAtLast if i + 1 == at.len() => sections.size.saturating_sub(184),
+        Slip::VolumeAtDirectorysEnd if i == 0 => 20,
+        Slip::BoxByOne if i > 0 => at[i] + 1,
+        _ => at[i],
+    }
+}
+
+fn checked(slip: Slip, file: &[u8]) -> Result<Sections, u32> {
+    let found = sections(slip, file)?;
+    let all = 0..found.at.len();
+    let lies = |i: usize| if lies_well(slip, &found, i) { Ok(()) } else { Err(9) };
+    let length = |i: usize| if has_length(slip, &found, i) { Ok(()) } else { Err(10) };
+    let flag = |i: usize| if has_flag(slip, file, &found, i) { Ok(()) } else { Err(3) };
+    match slip {
+        Slip::SectionBySection => all.clone().try_for_each(|i| lies(i).and(length(i)).and(flag(i)))?,
+        Slip::LengthsWithPlaces => all.clone().try_for_each(|i| lies(i).and(length(i)))?,
+        Slip::FlagsWithLengths => {
+            all.clone().try_for_each(lies)?;
+            all.clone().try_for_each(|i| length(i).and(flag(i)))?;
+        }
+        Slip::FlagsFirst => {
+            all.clone().try_for_each(lies)?;
+            all.clone().try_for_each(flag)?;
+        }
+        Slip::LengthsFirst => all.clone().try_for_each(length)?,
+        _ => {}
+    }
+    all.clone().try_for_each(lies)?;
+    if slip == Slip::RoomAfterLengths {
+        return all.clone().try_for_each(length).map(|()| found);
+    }
+    all.clone().try_for_each(length)?;
+    all.clone().try_for_each(flag)?;
+    Ok(found)
+}
+
+/// Reads a file with a slip.
+fn read(slip: Slip, file: &[u8], out: &mut [u32], count: &mut u32) -> u32 {
+    let most = match slip {
+        Slip::LargestRefused => 65_535,
+        Slip::LargerAllowed => 65_537,
+        _ => 65_536,
+    };
+    let too_large = file.len() > most;
+    let no_room = match slip {
+        Slip::LongerRoomAllowed => out.len() < BOXES,
+        Slip::ShorterRoomAllowed => {
+            out.len() > BOXES || out.len() < checked(slip, file).map_or(BOXES, |s| s.at.len() - 1)
+        }
+        _ => out.len() != BOXES,
+    };
+    let answer = match checked(slip, file) {
+        _ if slip == Slip::RoomBeforeSize && no_room => Err(2),
+        Err(refusal) if slip == Slip::SizeAfterDirectory && !no_room => Err(refusal),
+        _ if too_large => Err(1),
+        Err(9) if slip == Slip::RoomAfterDirectory => Err(9),
+        Err(refusal @ 9..) if slip == Slip::RoomAfterLengths => Err(refusal),
+        Err(refusal) if slip == Slip::RoomAfterFlags => Err(refusal),
+        _ if no_room => Err(2),
+        answer => answer,
+    };
+    let found = match answer {
+        Ok(found) => found,
+        Err(refusal) => {
+            match slip {
+                Slip::CountOnRefusal => *count = 0,
+                Slip::OutOnRefusal => out.iter_mut().for_each(|slot| *slot = u32::MAX),
+                Slip::OutOnFlag if refusal == 3 => out[0] = 1,
+                _ => {}
+            }
+            return refusal;
+        }
+    };
+    let boxes = (found.at.len() - 1).min(out.len());
+    let view = planes(&record(file, read_from(slip, &found, 0)));
+    let used = boxes - usize::from(slip == Slip::LastNotJudged);
+    for i in 1..=used {
+        let mut one: [f64; 23] = record(file, read_from(slip, &found, i));
+        one[22] = 0.0;
+        let yes = view.intersects_bbox(&boxed(&one).expect("its flag is 0"));
+        let slot = if slip == Slip::SlotByOne { i % out.len() } else { i - 1 };
+        out[slot] = u32::from(yes != (slip == Slip::Inverted));
+    }
+    let unused = &mut out[used..];
+    match slip {
+        Slip::UnusedLeft | Slip::SlotByOne => {}
+        Slip::UnusedZero => unused.fill(0),
+        Slip::UnusedOneShort => unused.iter_mut().skip(1).for_each(|slot| *slot = u32::MAX),
+        _ => unused.fill(u32::MAX),
+    }
+    match slip {
+        Slip::CountNotWritten => {}
+        Slip::CountOfSections => *count = boxes as u32 + 1,
+        _ => *count = boxes as u32,
+    }
+    0
+}
+
+fn reader(slip: Slip) -> Reader {
+    // What is lent is as long as it says; one word and one byte more is there.
+    Box::new(move |file, size, out, slots, count| unsafe {
+        match slip {
+            Slip::FileWritten if size > 100 => *file.cast_mut().add(100) ^= 1,
+            Slip::BesideWritten => *out.add(slots) = u32::MAX,
+            Slip::BesideCountWritten => *count.add(1) = 0,
+            _ => {}
+        }
+        read(slip, slice::from_raw_parts(file, size), slice::from_raw_parts_mut(out, slots), &mut *count)
+    })
+}
+
+#[test]
+fn a_second_reader_agrees() {
+    let farm = Farm::of(Some(reader(Slip::None)));
+    let fixed = farm.cases(0);
+    let tally = farm.compare(0..fixed + 300_000, 1);
+    assert_eq!(tally.differences, 0, "{:?}", tally.first);
+}
+
+/// By the files that are always tried, and by drawn ones alone as well.
+#[test]
+fn each_slip_is_found() {
+    for &slip in ALL.iter().filter(|&&slip| slip != Slip::None) {
+        let farm = Farm::of(Some(reader(slip)));
+        let fixed = farm.cases(0);
+        let found = |mut cases: Range<u64>| cases.any(|case| farm.agree(case, Rng::at(1, case)).is_none());
+        assert!(found(0..fixed), "{slip:?} passes the fixed files");
+        assert!(found(fixed..fixed + 200_000), "{slip:?} passes the drawn files");
+    }
+}
