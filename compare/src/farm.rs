@@ -15,7 +15,7 @@ use std::sync::LazyLock;
 pub type Reader = Box<dyn Fn(*const u8, usize, *mut u32, usize, *mut u32) -> u32 + Send + Sync>;
 
 /// Farm files and who reads them.
-pub struct Farm {
+pub struct FarmFiles {
     judge: Reader,
     ours: Option<Reader>,
 }
@@ -28,19 +28,19 @@ fn behind_pointers(read: impl Fn(&[u8], &mut [u32], &mut u32) -> u32 + Send + Sy
     })
 }
 
-impl Farm {
+impl FarmFiles {
     /// The archive's reader, if it has one.
-    pub fn of_archive() -> Farm {
+    pub fn of_archive() -> FarmFiles {
         let ours = of_archive!(
             gf_farm_file: fn(_: *const u8, _: usize, _: *mut u32, _: usize, _: *mut u32) -> u32
         );
-        Farm::of(ours.map(|f| -> Reader {
+        FarmFiles::of(ours.map(|f| -> Reader {
             Box::new(move |file, size, out, slots, count| unsafe { f(file, size, out, slots, count) })
         }))
     }
 
-    pub fn of(ours: Option<Reader>) -> Farm {
-        Farm { judge: behind_pointers(reader::farm_file), ours }
+    pub fn of(ours: Option<Reader>) -> FarmFiles {
+        FarmFiles { judge: behind_pointers(reader::farm_file), ours }
     }
 
     /// Draws a file, and how many slots are lent with it.
@@ -150,7 +150,7 @@ thread_local! {
     static DESK: RefCell<Desk> = RefCell::default();
 }
 
-impl Farm {
+impl FarmFiles {
     /// Puts a case to both: what the judge leaves, and what ours does.
     fn made<T>(&self, case: u64, rng: Rng, then: impl FnOnce(&Desk, Left, Left) -> T) -> T {
         DESK.with_borrow_mut(|desk| {
@@ -163,7 +163,7 @@ impl Farm {
     }
 }
 
-impl Trial for Farm {
+impl Trial for FarmFiles {
     fn name(&self) -> &'static str {
         "farm_file"
     }
@@ -206,7 +206,7 @@ pub fn described(file: &[u8]) -> String {
 /// How many files are read in turn where they are timed.
 const TIMED: usize = 32;
 
-impl Timed for Farm {
+impl Timed for FarmFiles {
     fn timings(&self) -> Vec<Timing<'_>> {
         let Some(ours) = &self.ours else {
             return vec![];

@@ -31,7 +31,7 @@ mod slips;
 mod trial;
 mod words;
 
-use farm::Farm;
+use farm::FarmFiles;
 use op::Timed;
 use program::Program;
 use std::fs::File;
@@ -96,7 +96,7 @@ fn read(words: &[&str]) -> Result<bool, String> {
         return Err(String::from("farm [COUNT]"));
     };
     let program = env::var_os("FARM_FILE").ok_or("FARM_FILE names the program")?;
-    let trials: [&dyn Trial; 2] = [&Farm::of_archive(), &Program::at(program.into())];
+    let trials: [&dyn Trial; 2] = [&FarmFiles::of_archive(), &Program::at(program.into())];
     Ok(run::run(trials.into_iter(), count, seed()?))
 }
 
@@ -117,7 +117,7 @@ fn seed() -> Result<u64, String> {
 /// All exported functions.
 fn all() -> Vec<Box<dyn Timed>> {
     let ops = ops::all().into_iter().map(|op| op as Box<dyn Timed>);
-    ops.chain(iter::once(Box::new(Farm::of_archive()) as Box<dyn Timed>)).collect()
+    ops.chain(iter::once(Box::new(FarmFiles::of_archive()) as Box<dyn Timed>)).collect()
 }
 
 /// The functions of these names, or all.

@@ -1,7 +1,7 @@
 //! A second reader of farm files with one slip at a time: each must be found
 //! by the files that are tried.
 
-use crate::farm::{Farm, Reader};
+use crate::farm::{FarmFiles, Reader};
 use crate::inputs::Rng;
 use crate::reader::BOXES;
 use crate::rust::{boxed, planes};
@@ -292,7 +292,7 @@ fn reader(slip: Slip) -> Reader {
 
 #[test]
 fn a_second_reader_agrees() {
-    let farm = Farm::of(Some(reader(Slip::None)));
+    let farm = FarmFiles::of(Some(reader(Slip::None)));
     let fixed = farm.cases(0);
     let tally = farm.compare(0..fixed + 300_000, 1);
     assert_eq!(tally.differences, 0, "{:?}", tally.first);
@@ -302,7 +302,7 @@ fn a_second_reader_agrees() {
 #[test]
 fn each_slip_is_found() {
     for &slip in ALL.iter().filter(|&&slip| slip != Slip::None) {
-        let farm = Farm::of(Some(reader(slip)));
+        let farm = FarmFiles::of(Some(reader(slip)));
         let fixed = farm.cases(0);
         let found = |mut cases: Range<u64>| cases.any(|case| farm.agree(case, Rng::at(1, case)).is_none());
         assert!(found(0..fixed), "{slip:?} passes the fixed files");

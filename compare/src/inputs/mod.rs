@@ -2,6 +2,7 @@
 //! numbers are given by their bits, those of an f32 in the low half.
 
 mod camera;
+mod damage;
 mod farm;
 mod file;
 mod notable_file;
@@ -11,6 +12,7 @@ mod space;
 mod view;
 
 pub use camera::*;
+pub use damage::*;
 pub use farm::*;
 pub use file::*;
 pub use notable_file::*;
