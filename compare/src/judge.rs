@@ -15,6 +15,7 @@ pub const SINGULAR: u32 = 4;
 pub const MISS: u32 = 5;
 pub const NO_PROJECTION: u32 = 6;
 pub const OFF_GRID: u32 = 7;
+
 // Paper 02's.
 
 /// A number of the result is not finite.

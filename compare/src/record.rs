@@ -40,6 +40,9 @@ mod tests {
     use super::*;
     use crate::ops;
     use std::collections::BTreeSet;
+    use std::fs;
+    use std::path::{Path, PathBuf};
+    use std::process::Command;
 
     /// Of each call every status that it has, and both a yes and a no.
     #[test]
@@ -69,11 +72,36 @@ mod tests {
         }
     }
 
+    /// A file of the project.
+    fn project(path: &str) -> PathBuf {
+        Path::new(env!("CARGO_MANIFEST_DIR")).join("..").join(path)
+    }
+
+    fn kept(path: &str) -> Vec<u8> {
+        fs::read(project(path)).expect("it is kept in the project")
+    }
+
     /// All of it is read in the gate.
     #[test]
-    fn recorded_files_are_few() {
+    fn recorded_files_are_few_and_kept() {
         let (mut files, mut lines) = (vec![], vec![]);
         write_files(&mut files, &mut lines).expect("memory is written to");
         assert!(files.len() < 400_000, "{} bytes", files.len());
+        assert!(files == kept("crates/replay_farm/stdin") && lines == kept("crates/replay_farm/stdout"));
+    }
+
+    /// The program's own file is the example orchard's, and the page about
+    /// farm files shows its first bytes.
+    #[test]
+    fn the_example_orchard_is_kept_and_shown() {
+        let file = kept("crates/farm_file/stdin");
+        assert_eq!(reader::lines(&file).as_bytes(), kept("crates/farm_file/stdout"));
+        let made = Command::new(project("examples/farm-file")).arg(project("examples/orchard.farm")).output();
+        assert!(made.expect("python3 runs").stdout == file);
+        let page = String::from_utf8(kept("docs/FARM_FILE.md")).expect("it is text");
+        let shown = page.lines().filter_map(|line| line.strip_prefix("    000000")).map(|line| &line[4..43]);
+        let shown: String = shown.flat_map(str::chars).filter(|c| *c != ' ').collect();
+        let bytes: String = file[..128].iter().map(|byte| format!("{byte:02x}")).collect();
+        assert_eq!(shown, bytes);
     }
 }
