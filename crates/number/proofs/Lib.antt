@@ -13,6 +13,7 @@ pub mod RootBits
 pub mod NearestRoot
 pub mod SquareRoot
 pub mod Stores
+pub mod Words
 pub mod Centimetres
 pub mod Halves
 pub mod Refusals

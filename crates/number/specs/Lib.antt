@@ -3,6 +3,7 @@ pub mod Arithmetic
 pub mod Root
 pub mod Answer
 pub mod Slice
+pub mod Bytes
 pub mod Grid
 pub mod Format
 pub mod Steps

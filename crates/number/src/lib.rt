@@ -5,6 +5,7 @@ ghost use lib.Ieee.Nearest.{closest};
 ghost use Rattle.number.specs.Steps.{Normalised};
 
 pub mod answer;
+pub mod bytes;
 pub mod format;
 pub mod grid;
 pub mod order;

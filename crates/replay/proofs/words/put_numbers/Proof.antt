@@ -1,81 +1,33 @@
--- `replay::words::put_numbers` meets its contract: what was passed is in front. Assumes nothing.
-use mathlib.Core.Path.{_≡_, refl, ap, _∙_}
-use Prim.Native.Nat.{ℕ, _≤_, _-_, min}
+-- `replay::words::put_numbers` meets its contract: the numbers are loaded in front. Assumes nothing.
+use mathlib.Core.Path.{_≡_, refl, sym, ap, _∙_}
+use mathlib.Core.List.{List, _++_}
+use Prim.Native.Nat.{ℕ, _+_, _-_, _*_, _≤_, min}
 use native.Mathlib.Omega.{arith}
 use borrow.Author.Needs.{needs}
-use lib.ListN.{length, length-set}
-use Rattle.replay.specs.Words.{withNumbers}
-use Rattle.replay.proofs.Numbers.{put-next}
+use lib.ListN.{length, take, drop}
+use lib.Seq.{length-take-le}
+use lib.Ieee.{Float}
+use Rattle.number.specs.Bytes.{numbersAt, loaded}
+use Rattle.number.proofs.Words.{all-there}
+use Rattle.replay.specs.Words.{putWords}
 use Rattle.replay.proofs.words.put_numbers.Statement.{statement}
 use Rattle.replay.proofs.words.put_numbers.Tie as tie
 
-abbrev Inv-loop : tie.InvT-loop
-Inv-loop bytes count numbers₀ n i₀ numbers i = (i ≤ n) × (numbers ≡ withNumbers i bytes numbers₀) × (length numbers ≡ length numbers₀)
+put-front : (b : List ℕ) (l ys : List Float) (n k : ℕ) → 640 ≡ length b → k ≡ min (min n 80) (length l) → ys ≡ loaded b 0 (take k l) → ys ++ drop k l ≡ putWords n b l
+put-front b l ys n k h e q =
+    let m = length-take-le k l (omega arith) in
+    ap (λ (t : List Float). t ++ drop k l) (q ∙ all-there b 0 (take k l) (omega (arith, m)) ∙ ap (numbersAt b 0) m) ∙ ap (λ (j : ℕ). numbersAt b 0 j ++ drop j l) e
 
-abbrev μ-loop : tie.MeasureT-loop
-μ-loop bytes count numbers₀ n i₀ numbers i = n - i
+slice-aggregate-load : tie.Need-slice-aggregate-load
+slice-aggregate-load c = sym (length-take-le _ _ (omega (arith, c .before .before .least2 .ensures)))
 
-least-requires : tie.Need-least-requires Inv-loop μ-loop
-least-requires c κs = search needs
-
-least-requires-2 : tie.Need-least-requires-2 Inv-loop μ-loop
-least-requires-2 c κs = search needs
-
-loop-holds : tie.Need-loop-holds Inv-loop μ-loop
-loop-holds c = (search needs, refl, refl)
-
-mul-word-at : tie.Need-mul-word-at Inv-loop μ-loop
-mul-word-at c = omega arith
-
-word-at-requires : tie.Need-word-at-requires Inv-loop μ-loop
-word-at-requires c κs = omega arith
-
-from-bits-requires : tie.Need-from-bits-requires Inv-loop μ-loop
-from-bits-requires c κs = search needs
-
-mul-numbers : tie.Need-mul-numbers Inv-loop μ-loop
-mul-numbers c = omega arith
-
-slice-write-numbers : tie.Need-slice-write-numbers Inv-loop μ-loop
-slice-write-numbers c = omega arith
-
-add-i : tie.Need-add-i Inv-loop μ-loop
-add-i c = search needs
-
-loop-less : tie.Need-loop-less Inv-loop μ-loop
-loop-less c = search needs
-
-loop-again : tie.Need-loop-again Inv-loop μ-loop
-loop-again c =
-    let l = c .before .before .before .before .loop in
-    let s = c .before .before .before .before .before .before .before .before .args in
-    (search needs, put-next (s .bytes .now) (s .numbers .now) (l .i) (omega arith) _ _ _ (l .inv .1) (c .from-bits .ensures) (c .before .word-at .ensures), simp length-set (l .inv .2))
-
-same-length : tie.Need-same-length Inv-loop μ-loop
-same-length c = search needs
-
-returns : tie.Need-returns Inv-loop μ-loop
+returns : tie.Need-returns
 returns c =
-    let s = c .before .before .before .before .before .args in
-    let e : c .before .loop .i ≡ min (min (s .count) 80) (length (s .numbers .now)) = omega arith in
-    c .before .loop .inv .1 ∙ ap (λ (k : ℕ). withNumbers k (s .bytes .now) (s .numbers .now)) e
+    let filled = c .before .before in
+    let least = filled .before .before .before in
+    let given = least .before .before .before .args in
+    let n : least .least2 .result ≡ min (min (given .count) 80) (length (given .numbers .now)) = omega (arith, least .least2 .ensures, least .before .least .ensures) in
+    put-front (given .bytes .now) (given .numbers .now) _ (given .count) _ (omega arith) n (filled .load .ensures)
 
 pub put-numbers-spec : {M : Type 1} → statement M
-put-numbers-spec =
-    tie.close
-    (tie.spec
-    Inv-loop
-    μ-loop
-    least-requires
-    least-requires-2
-    loop-holds
-    mul-word-at
-    word-at-requires
-    from-bits-requires
-    mul-numbers
-    slice-write-numbers
-    add-i
-    loop-less
-    loop-again
-    same-length
-    returns)
+put-numbers-spec = tie.close (tie.spec (λ c κs. tt) (λ c κs. tt) (λ c. search needs) slice-aggregate-load (λ c κs. tt) (λ c. search needs) returns)
