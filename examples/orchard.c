@@ -1,6 +1,7 @@
 /* One orchard through the C library; orchard.rs does the same in Rust. `examples/run` builds and runs both. */
 #include "gf.h"
 #include <stdio.h>
+#include <string.h>
 
 /* The view, in centimetres: x from 0 to 4000, y from 0 to 3000, z from 0 to 600. Six planes that face into it; the four rays,
  * which the triangle verdict alone reads, stay zero. */
@@ -39,12 +40,32 @@ static void print_numbers(const char *what, uint32_t status, const double *numbe
     printf("\n");
 }
 
+/* A farm file of the view and the two blocks: the count, where each section begins and how many bytes it has, and the sections.
+ * The numbers are copied as they lie in memory, low byte first. */
+static size_t make_farm_file(uint8_t *file)
+{
+    const double *sections[3] = {view, south, north};
+    const uint32_t sizes[3] = {sizeof view, sizeof south, sizeof north}, count = 3;
+    uint32_t offset = 4 + 8 * count;
+
+    memcpy(file, &count, 4);
+    for (uint32_t i = 0; i < count; i++) {
+        memcpy(file + 4 + 8 * i, &offset, 4);
+        memcpy(file + 8 + 8 * i, &sizes[i], 4);
+        memcpy(file + offset, sections[i], sizes[i]);
+        offset += sizes[i];
+    }
+    return offset;
+}
+
 int main(void)
 {
     const double mast[3] = {-500, 1500, 550};
     const double survey[3] = {12.34, 20.5, 1.6}, far_off[3] = {656, 0, 0}; /* metres */
     double tree[3] = {0}, both[23] = {0}, range[6] = {0}, projection[16] = {0}, camera[24] = {0};
-    uint32_t status, yes = 0;
+    uint8_t file[800];
+    size_t file_size;
+    uint32_t status, yes = 0, slots[63], count = 0;
 
     status = gf_grid(survey, 3, tree, 3);
     print_numbers("tree in centimetres", status, tree, 3);
@@ -67,6 +88,13 @@ int main(void)
     print_numbers("camera at, and its lens", status, camera + 12, 12);
     status = gf_camera_set_from_view_and_projection(camera_view, 16, projection, 16, 3e38f, camera, 24);
     print_numbers("camera with a focal length of 3e38", status, camera + 12, 12);
+
+    file_size = make_farm_file(file);
+    status = gf_farm_file(file, file_size, slots, 63, &count);
+    for (uint32_t i = 0; status == 0 && i < count; i++)
+        print_verdict(i == 0 ? "farm file, block 1" : "farm file, block 2", 0, slots[i]);
+    status = gf_farm_file(file, file_size - 1, slots, 63, &count);
+    print_verdict("farm file without its last byte", status, 0);
 
     status = gf_grid(far_off, 3, tree, 3);
     print_numbers("tree at 656 metres", status, tree, 3);

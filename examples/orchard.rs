@@ -9,6 +9,7 @@ extern "C" {
     fn gf_bbox_aligned_range(b: *const f64, b_len: usize, out: *mut f64, out_len: usize) -> u32;
     fn gf_projection_matrix(p: *const f64, p_len: usize, out: *mut f64, out_len: usize) -> u32;
     fn gf_camera_set_from_view_and_projection(v: *const f64, v_len: usize, p: *const f64, p_len: usize, focal_length: f32, out: *mut f64, out_len: usize) -> u32;
+    fn gf_farm_file(file: *const u8, file_len: usize, out: *mut u32, out_len: usize, count: *mut u32) -> u32;
 }
 
 /// What a call wrote, or the number of its refusal. The calls are safe: a slice's pointer and length belong together, and
@@ -50,6 +51,27 @@ fn camera(v: &[f64], p: &[f64], focal_length: f32) -> Result<[f64; 24], u32> {
     })
 }
 
+/// The verdicts on the boxes of a farm file.
+fn farm_file(file: &[u8]) -> Result<Vec<u32>, u32> {
+    let (slots, count) = answer(([0; 63], 0), |(slots, count)| unsafe {
+        gf_farm_file(file.as_ptr(), file.len(), slots.as_mut_ptr(), slots.len(), count)
+    })?;
+    Ok(slots[..count as usize].to_vec())
+}
+
+/// A farm file of these records: the count, where each begins and how many bytes it has, and their numbers.
+fn made_file(records: &[&[f64]]) -> Vec<u8> {
+    let mut file = (records.len() as u32).to_le_bytes().to_vec();
+    let mut offset = 4 + 8 * records.len();
+    for record in records {
+        file.extend((offset as u32).to_le_bytes());
+        file.extend((8 * record.len() as u32).to_le_bytes());
+        offset += 8 * record.len();
+    }
+    file.extend(records.concat().iter().flat_map(|number| number.to_le_bytes()));
+    file
+}
+
 fn print_verdict(what: &str, verdict: Result<u32, u32>) {
     match verdict {
         Ok(yes) => println!("{what}: {}", if yes == 1 { "yes" } else { "no" }),
@@ -88,6 +110,12 @@ fn main() -> Result<(), u32> {
     let place_and_lens = |camera: [f64; 24]| <[f64; 12]>::try_from(&camera[12..]).unwrap();
     print_numbers("camera at, and its lens", camera(&camera_view, &projection, 50.0).map(place_and_lens));
     print_numbers("camera with a focal length of 3e38", camera(&camera_view, &projection, 3e38).map(place_and_lens));
+
+    let file = made_file(&[&view, &south, &north]);
+    for (i, verdict) in farm_file(&file)?.into_iter().enumerate() {
+        print_verdict(&format!("farm file, block {}", i + 1), Ok(verdict));
+    }
+    print_verdict("farm file without its last byte", farm_file(&file[..file.len() - 1]).map(|_| 0));
     print_numbers("tree at 656 metres", grid(&[656.0, 0.0, 0.0]));
     Ok(())
 }

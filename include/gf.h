@@ -4,8 +4,8 @@
  * function is proved to meet its contract (crates/gf/src), for all lengths and all numbers. The functions keep nothing from
  * call to call, so that threads may call them at once.
  *
- * What is lent. A slice is two parameters: a pointer, and a length counted in numbers (double), not in bytes. The caller
- * owes, and nothing tests:
+ * What is lent. A slice is two parameters: a pointer, and a length counted in what it points to: numbers (double), and in
+ * gf_farm_file bytes and slots. The caller owes, and nothing tests:
  *
  *   - a pointer is not null, even where its length is 0; it is aligned for what it points to, and points to at least as many
  *     numbers as the length says, or to one where it has no length beside it;
@@ -26,9 +26,11 @@
  *   6  a matrix is not a projection
  *   7  a coordinate is off the grid
  *   8  a number of a camera is not finite
+ *   9  a farm file is too short, or its directory does not say where its sections lie
+ *   10 a section of a farm file is not as long as its record
  *
  * With status 0 all of `out` is written. Every refusal leaves `out` unchanged. Slices lent for reading are never written.
- * Where more than one refusal applies, the one with the smaller number is returned. A result of several numbers goes into a
+ * Where more than one refusal applies, the one that "Refuses" lists first is returned. A result of several numbers goes into a
  * slice, `double *out, size_t out_len`. A lone number goes into one `double *out`, a yes or no into one `uint32_t *out`, 1 for
  * yes and 0 for no; these have no length, so no 2 is given.
  *
@@ -219,6 +221,18 @@ uint32_t gf_projection_from_matrix(const double *m, size_t m_len, double *out, s
  * infinity. A focal length of 0 or below, and near above far, are accepted. With status 0 all 24 numbers are finite.
  * In: view 16, projection 16. Out: 24 numbers. Refuses: 1, 2, 4, 6, 8. */
 uint32_t gf_camera_set_from_view_and_projection(const double *view, size_t view_len, const double *projection, size_t projection_len, float focal_length, double *out, size_t out_len);
+
+/* ---- farm files */
+
+/* The verdicts on all boxes of a farm file, a string of bytes that holds a volume and from 1 to 63 boxes (docs/FARM_FILE.md).
+ * out has 63 slots: box i of the file has slot i - 1, which is 1 if the box is in view (as gf_intersects_bbox) and 0 if not; a
+ * slot without a box holds 4294967295. count is the number of boxes. 1: the file has more than 65536 bytes. 2: out has not 63
+ * slots. 9: the file has fewer than 4 bytes, its count of sections is not from 2 to 64, the directory does not fit, or a section
+ * starts before the end of the directory or of the section listed before it, or passes the end of the file. 10: a section has not
+ * 8 bytes for each number of its record. 3: the flag of a box is neither 0, of either sign, nor 1. Each is looked for in the whole
+ * file before the next. The bytes need no alignment.
+ * In: the file, of any length. Out: 63 slots, and the count. Refuses: 1, 2, 9, 10, 3. */
+uint32_t gf_farm_file(const uint8_t *file, size_t file_len, uint32_t *out, size_t out_len, uint32_t *count);
 
 /* ---- boxes. 3, in each: the flag of a box is neither 0, of either sign, nor 1 */
 

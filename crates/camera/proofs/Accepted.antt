@@ -9,8 +9,7 @@ use lib.Ieee.{Float, binary32, fits}
 use Rattle.number.specs.Answer.{Reply, refuse, numberOf, unless, has, leaving}
 use Rattle.number.specs.Format.{narrowOf}
 use Rattle.number.specs.Slice.{allFinite}
-use Rattle.number.specs.declared.answer.Refusal.{Refusal}
-use Rattle.number.specs.declared.answer.Refusal.the-variants.{InputLength, OutputLength, Kind, Singular as SingularRefusal, Miss, NotAProjection as NoProjection, OffGrid, NotFinite}
+use Rattle.number.specs.declared.answer.Refusal.the-variants.{NotFinite}
 use Rattle.number.proofs.Formats.{narrow-same, narrow-fits}
 use Rattle.matrix.specs.Inverse.{inverse}
 use Rattle.matrix.specs.Matrix.{matrixOf}
@@ -36,31 +35,20 @@ narrowed x = single (narrowOf x) (narrow-fits x)
 
 abbrev Good : Set → Type 0
 Good (To c) = AcceptedRecord (numbers c)
-Good (Refused r) = Unit {0}
+Good (Refused r) = numberOf r ≡ 0 → ⊥
 
 tested : (c : Camera) → Each Single (lens c) → (b : Bool) → allFinite (numbers c) ≡ b → Good (unless b (Refused NotFinite) (To c))
 tested c s true e = record { numbers = refl; finite = e; singles = s }
-tested c s false e = tt
+tested c s false e = λ z. omega (arith, z)
 
 good : (i : Inverted) (r : Recovered) (focal : Float) → T (fits binary32 focal) → Good (opened i r focal)
 unfolding finiteOnly
-good Singular r focal h = tt
-good (Matrix m) NotAProjection focal h = tt
+good Singular r focal h = λ z. omega (arith, z)
+good (Matrix m) NotAProjection focal h = λ z. omega (arith, z)
 good (Matrix m) (Params p) focal h =
     tested (cameraOf m p focal) (single focal h, (narrowed _, (narrowed _, (narrowed _, (narrowed _, (narrowed _, (narrowed _, tt))))))) (allFinite (numbers (cameraOf m p focal))) refl
 
 -- ---- the call
-
--- no refusal has the number 0
-counted : (r : Refusal) → numberOf r ≡ 0 → ⊥
-counted InputLength e = omega (arith, e)
-counted OutputLength e = omega (arith, e)
-counted Kind e = omega (arith, e)
-counted SingularRefusal e = omega (arith, e)
-counted Miss e = omega (arith, e)
-counted NoProjection e = omega (arith, e)
-counted OffGrid e = omega (arith, e)
-counted NotFinite e = omega (arith, e)
 
 abbrev answer : Bool → Bool → Set → List Float → Reply
 answer inputs room s out = unless inputs (refuse 1 out) (unless room (refuse 2 out) (replied (setNumbers s) out))
@@ -69,7 +57,7 @@ accepted : (inputs room : Bool) (s : Set) (out : List Float) → Good s → answ
 accepted false room s out g e = absurd (omega (arith, e))
 accepted true false s out g e = absurd (omega (arith, e))
 accepted true true (To c) out g e = g
-accepted true true (Refused r) out g e = absurd (counted r e)
+accepted true true (Refused r) out g e = absurd (g e)
 
 pub camera-accepted : CameraAccepted
 unfolding cameraCall leaving cameraFrom

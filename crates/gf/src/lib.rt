@@ -1,6 +1,7 @@
 // The C functions of include/gf.h: each is the operation of the same name, with the number of its answer.
 pub mod bbox_calls;
 pub mod camera_calls;
+pub mod farm_calls;
 pub mod frustum_calls;
 pub mod matrix_calls;
 pub mod number_calls;

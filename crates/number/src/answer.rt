@@ -11,6 +11,8 @@ pub enum Refusal {
     NotAProjection,
     OffGrid,
     NotFinite,
+    Directory,
+    SectionLength,
 }
 
 pub enum Written {
@@ -43,6 +45,8 @@ impl Refusal {
             Refusal::NotAProjection => 6,
             Refusal::OffGrid => 7,
             Refusal::NotFinite => 8,
+            Refusal::Directory => 9,
+            Refusal::SectionLength => 10,
         }
     }
 }

@@ -1,0 +1,134 @@
+-- What a call's slots say of a file's answer. Assumes nothing.
+use mathlib.Core.Path.{_≡_, refl, sym, ap, _∙_}
+use mathlib.Core.Bool.{Bool, true, false, cond}
+use mathlib.Core.List.{List, [], _∷_, _++_, map}
+use Prim.Native.Nat.{ℕ, _-_, _<_, _≤_}
+use native.Mathlib.Omega.{arith}
+use borrow.Author.Tests.{eq-eqb, leb-true}
+use lib.Dec.{leb}
+use lib.ListN.{length, length-append, length-map, take, replicate}
+use lib.Seq.{take-at}
+use Rattle.number.specs.Answer.{Outcome, refused, result, unless}
+use Rattle.farm.specs.Directory.{largestFile, sectionCount, boxSections, wellFormed}
+use Rattle.farm.specs.FarmFile.{sized, allFlagged, inView, checked, farmFile, slotCount, slotOf, noBox, slots, Listing, listing, listed, farmFileCall}
+use Rattle.farm.specs.Lines.{decimal, linesFrom, refusedWord, refusedLine, linesOf, inserted, textRoom, Printed, printed, linesCall, isYes}
+use Rattle.farm.proofs.SectionsLeft.{as-many}
+use Rattle.farm.proofs.Slots.{length-slots}
+use Rattle.farm.proofs.Placed.{at-most}
+use Rattle.farm.proofs.Texts.{length-inserted, short-decimal, short-lines}
+
+-- ---- the checks of a file, one after the other
+
+abbrev chain : Bool → Bool → Bool → Bool → List Bool → Outcome (List Bool)
+chain f w s g vs = unless f (refused 1) (unless w (refused 9) (unless s (refused 10) (unless g (refused 3) (result vs))))
+
+all-passed : (f w s g : Bool) (ws vs : List Bool) → chain f w s g ws ≡ result vs → (w ≡ true) × (ws ≡ vs)
+all-passed true true true true ws vs e = (refl, cc)
+all-passed true true true false ws vs e = (refl, cc)
+all-passed true true false g ws vs e = (refl, cc)
+all-passed true false s g ws vs e = (cc, cc)
+all-passed false true s g ws vs e = (refl, cc)
+all-passed false false s g ws vs e = (cc, cc)
+
+small : (f w s g : Bool) (ws : List Bool) (k : ℕ) → chain f w s g ws ≡ refused k → k < 100
+small true true true true ws k e = let z : _≡_ {A = ℕ} 0 1 = cc in omega arith
+small true true true false ws k e = let z : 3 ≡ k = cc in omega arith
+small true true false g ws k e = let z : 10 ≡ k = cc in omega arith
+small true false s g ws k e = let z : 9 ≡ k = cc in omega arith
+small false w s g ws k e = let z : 1 ≡ k = cc in omega arith
+
+module _ (b : List ℕ) where
+  abbrev found : List Bool
+  found = map (inView b) (boxSections b)
+
+  is : chain (leb (length b) largestFile) (wellFormed b) (sized b) (allFlagged b) found ≡ farmFile b
+  unfolding farmFile checked
+  is = refl
+
+  answered : (vs : List Bool) → farmFile b ≡ result vs → (wellFormed b ≡ true) × (found ≡ vs)
+  answered vs e = all-passed (leb (length b) largestFile) (wellFormed b) (sized b) (allFlagged b) found vs (is ∙ e)
+
+  pub well-formed : (vs : List Bool) → farmFile b ≡ result vs → wellFormed b ≡ true
+  well-formed vs e = answered vs e .0
+
+  few : (vs : List Bool) → farmFile b ≡ result vs → length vs ≤ slotCount
+  few vs e =
+      let n = length-map (boxSections b) (inView b) ∙ as-many b 1 (sectionCount b - 1) in
+      omega (arith, sym (ap length (answered vs e .1)) ∙ n, at-most b (well-formed vs e))
+
+  small-number : (k : ℕ) → farmFile b ≡ refused k → k < 100
+  small-number k e = small (leb (length b) largestFile) (wellFormed b) (sized b) (allFlagged b) found k (is ∙ e)
+
+  -- ---- what a call with room answers
+
+  by-answer : (out : List ℕ) → length out ≡ slotCount → farmFileCall b out ≡ listed (farmFile b) out
+  unfolding farmFileCall farmFile
+  by-answer out q = let e = eq-eqb (length out) slotCount q in rw e (by-size (leb (length b) largestFile))
+    where
+      by-size : (t : Bool) → unless t (listing (refused 1) out) (listed (checked b) out) ≡ listed (unless t (refused 1) (checked b)) out
+      by-size true = refl
+      by-size false = refl
+
+-- ---- the verdicts of slots
+
+verdicts : (vs : List Bool) → map isYes (map slotOf vs) ≡ vs
+verdicts [] = refl
+verdicts (true ∷ vs) = ap (λ (l : List Bool). true ∷ l) (verdicts vs)
+verdicts (false ∷ vs) = ap (λ (l : List Bool). false ∷ l) (verdicts vs)
+
+read-back : (vs : List Bool) → map isYes (take (length vs) (slots vs)) ≡ vs
+read-back vs = ap (map isYes) (take-at (map slotOf vs) (replicate (slotCount - length vs) noBox) (length vs) (length-map vs slotOf)) ∙ verdicts vs
+
+pub record Shown (o : Outcome (List Bool)) (n : ℕ) (l : List ℕ) : Type 0 where
+  pub all : n ≤ length l
+  pub few : n ≤ slotCount
+  pub lines : linesFrom 1 (map isYes (take n l)) ≡ linesOf o
+
+shown : (b : List ℕ) (o : Outcome (List Bool)) (out : List ℕ) (n : ℕ) (l : List ℕ) → farmFile b ≡ o → listing (result n) l ≡ listed o out → Shown o n l
+unfolding linesOf
+shown b (refused k) out n l a e = let f = ap (λ (x : Listing). x .boxes) e in let z : _≡_ {A = ℕ} 0 1 = cc in absurd (omega (arith, z))
+shown b (result vs) out n l a e =
+    let f = ap (λ (x : Listing). x .boxes) e in
+    let m : n ≡ length vs = cc in
+    let s = ap (λ (x : Listing). x .out) e in
+    let h = few b vs a in record {
+      all = omega (arith, m, h, ap length s ∙ length-slots vs h);
+      few = omega (arith, m, h);
+      lines = ap (λ (k : ℕ). linesFrom 1 (map isYes (take k l))) m ∙ ap (λ (t : List ℕ). linesFrom 1 (map isYes (take (length vs) t))) s ∙ ap (linesFrom 1) (read-back vs);
+    }
+
+module _ (b out : List ℕ) (q : length out ≡ slotCount) (l : List ℕ) where
+  pub boxes-shown : (n : ℕ) → listing (result n) l ≡ farmFileCall b out → Shown (farmFile b) n l
+  boxes-shown n e = shown b (farmFile b) out n l refl (e ∙ by-answer b out q)
+
+  pub refusal-shown : (k : ℕ) → listing (refused k) l ≡ farmFileCall b out → (k < 100) × (refusedLine k ≡ linesOf (farmFile b))
+  unfolding linesOf
+  refusal-shown k e = by-case (farmFile b) refl (e ∙ by-answer b out q)
+    where
+      by-case : (o : Outcome (List Bool)) → farmFile b ≡ o → listing (refused k) l ≡ listed o out → (k < 100) × (refusedLine k ≡ linesOf o)
+      by-case (refused j) a f = let g = ap (λ (x : Listing). x .boxes) f in let z : k ≡ j = cc in (omega (arith, small-number b j a, z), ap refusedLine z)
+      by-case (result vs) a f = let g = ap (λ (x : Listing). x .boxes) f in let z : _≡_ {A = ℕ} 0 1 = cc in absurd (omega (arith, z))
+
+-- ---- how long the lines are
+
+short-refused : (n : ℕ) → length (refusedLine n) ≤ 11
+unfolding refusedLine
+short-refused n = omega (arith, length-append (refusedWord ++ decimal n) (10 ∷ []), length-append refusedWord (decimal n), short-decimal n)
+
+short-text : (b : List ℕ) (o : Outcome (List Bool)) → farmFile b ≡ o → length (linesOf o) ≤ textRoom
+unfolding linesOf
+short-text b (refused k) a = omega (arith, short-refused k)
+short-text b (result vs) a = omega (arith, short-lines 1 vs, few b vs a)
+
+-- what a call answers is within the text that it leaves
+pub within-text : (b t : List ℕ) (r : ℕ) (l : List ℕ) → printed r l ≡ linesCall b t → r ≤ length l
+unfolding linesCall
+within-text b t r l e = by-room (leb textRoom (length t)) (λ q. leb-true textRoom (length t) q) e
+  where
+    by-room : (f : Bool) → (f ≡ true → textRoom ≤ length t) → printed r l ≡ cond f (printed (length (linesOf (farmFile b))) (inserted t 0 (linesOf (farmFile b)))) (printed 0 t) → r ≤ length l
+    by-room true h q =
+        let s = linesOf (farmFile b) in
+        let room = short-text b (farmFile b) refl in
+        let put = ap (λ (p : Printed). length (p .text)) q ∙ length-inserted t 0 s (omega (arith, h refl, room)) in
+        omega (arith, h refl, ap (λ (p : Printed). p .size) q, room, put)
+    by-room false h q = omega (arith, ap (λ (p : Printed). p .size) q)

@@ -1,0 +1,94 @@
+-- Bytes put into a text one part behind the other; lines one behind the other. Assumes nothing.
+use mathlib.Core.Path.{_≡_, refl, sym, ap, _∙_}
+use mathlib.Core.Bool.{Bool, true, false, cond}
+use mathlib.Core.List.{List, [], _∷_, _++_, map, append-assoc, append-nil}
+use Prim.Native.Nat.{ℕ, suc, _+_, _-_, _*_, _/_, _%_, _≤_}
+use native.Mathlib.Omega.{arith}
+use lib.Dec.{ltb}
+use lib.ListN.{length, length-append, length-drop, take, drop, drop-of-length-le}
+use lib.Seq.{length-take-le, take-at, take-all, take-length, drop-append-add, drop-drop}
+use Rattle.farm.specs.Lines.{decimal, yesOrNo, line, linesFrom, inserted}
+
+module _ (t : List ℕ) (at : ℕ) (h : at ≤ length t) (a b : List ℕ) where
+  as-long : length (take at t ++ a) ≡ at + length a
+  as-long = length-append (take at t) a ∙ ap (λ (n : ℕ). n + length a) (length-take-le at t h)
+
+  rest : drop (at + length a + length b) (inserted t at a) ≡ drop (at + length (a ++ b)) t
+  rest =
+      let d = drop (at + length a) t in
+      let e : at + length a + length b ≡ at + length (a ++ b) = omega (arith, length-append a b) in
+      ap (λ (n : ℕ). drop (n + length b) (take at t ++ a ++ d)) (sym as-long)
+      ∙ drop-append-add (take at t ++ a) d (length b) ∙ drop-drop (length b) (at + length a) t
+      ∙ ap (λ (n : ℕ). drop n t) e
+
+  -- one part, and the next behind it
+  pub both : inserted (inserted t at a) (at + length a) b ≡ inserted t at (a ++ b)
+  both =
+      ap (λ (l : List ℕ). l ++ b ++ drop (at + length a + length b) (inserted t at a)) (take-at (take at t ++ a) (drop (at + length a) t) (at + length a) as-long)
+      ∙ ap (λ (l : List ℕ). take at t ++ a ++ b ++ l) rest
+      ∙ ap (λ (l : List ℕ). l ++ drop (at + length (a ++ b)) t) (append-assoc (take at t) a b)
+
+pub length-inserted : (t : List ℕ) (at : ℕ) (a : List ℕ) → at + length a ≤ length t → length (inserted t at a) ≡ length t
+length-inserted t at a h =
+    let front = as-long t at (omega (arith, h)) a [] in
+    length-append (take at t ++ a) (drop (at + length a) t) ∙ omega (arith, front, length-drop (at + length a) t)
+
+-- ---- lines
+
+pub short-decimal : (n : ℕ) → length (decimal n) ≤ 2
+unfolding decimal
+short-decimal n = by-digits (ltb n 10)
+  where
+    by-digits : (b : Bool) → length (cond b ((48 + n) ∷ []) ((48 + n / 10) ∷ (48 + n % 10) ∷ [])) ≤ 2
+    by-digits true = omega arith
+    by-digits false = omega arith
+
+pub short-line : (k : ℕ) (v : Bool) → length (line k v) ≤ 7
+unfolding line
+short-line k true = omega (arith, length-append (decimal k) (yesOrNo true), short-decimal k)
+short-line k false = omega (arith, length-append (decimal k) (yesOrNo false), short-decimal k)
+
+lines-both : (k : ℕ) (a b : List Bool) → linesFrom k (a ++ b) ≡ linesFrom k a ++ linesFrom (k + length a) b
+unfolding linesFrom
+lines-both k [] b = let e : k ≡ k + 0 = omega arith in ap (λ (n : ℕ). linesFrom n b) e
+lines-both k (v ∷ a) b =
+    let e : suc k + length a ≡ k + suc (length a) = omega arith in
+    ap (λ (l : List ℕ). line k v ++ l) (lines-both (suc k) a b ∙ ap (λ (n : ℕ). linesFrom (suc k) a ++ linesFrom n b) e)
+    ∙ sym (append-assoc (line k v) (linesFrom (suc k) a) (linesFrom (k + suc (length a)) b))
+
+-- one line more
+pub lines-more : (k : ℕ) (vs : List Bool) (v : Bool) → linesFrom k (vs ++ (v ∷ [])) ≡ linesFrom k vs ++ line (k + length vs) v
+unfolding linesFrom
+lines-more k vs v = lines-both k vs (v ∷ []) ∙ ap (λ (l : List ℕ). linesFrom k vs ++ l) (append-nil (line (k + length vs) v))
+
+pub short-lines : (k : ℕ) (vs : List Bool) → length (linesFrom k vs) ≤ 7 * length vs
+unfolding linesFrom
+short-lines k [] = omega arith
+short-lines k (v ∷ vs) = omega (arith, length-append (line k v) (linesFrom (suc k) vs), short-line k v, short-lines (suc k) vs)
+
+-- a copy to the front of what is left of a text
+pub part-put : (t : List ℕ) (at : ℕ) (s ys : List ℕ) → at ≤ length t → ys ≡ take (length s) s ++ drop (length s) (take (length t - at) (drop at t))
+    → take at t ++ (ys ++ drop (length t - at) (drop at t)) ≡ inserted t at s
+part-put t at s ys h e =
+    let none : drop (length t - at) (drop at t) ≡ [] = drop-of-length-le (drop at t) {i = length t - at} (omega (arith, length-drop at t)) in
+    ap (λ (l : List ℕ). take at t ++ (ys ++ l)) none ∙ ap (λ (l : List ℕ). take at t ++ l) (append-nil ys ∙ e ∙ ap (λ (l : List ℕ). l ++ drop (length s) (take (length t - at) (drop at t))) (take-length s)
+    ∙ ap (λ (l : List ℕ). s ++ drop (length s) l) (take-all (length t - at) (drop at t) (omega (arith, length-drop at t))))
+    ∙ sym (append-assoc (take at t) s (drop (length s) (drop at t))) ∙ ap (λ (l : List ℕ). take at t ++ s ++ l) (drop-drop (length s) at t)
+
+-- ---- what putting answers and leaves: the place behind the bytes, and the text with them
+
+abbrev pub Put : List ℕ → ℕ → List ℕ → ℕ → List ℕ → Type 0
+Put t at s r l = (r ≡ at + length s) × (l ≡ inserted t at s)
+
+module _ (t : List ℕ) (at : ℕ) (a : List ℕ) (r : ℕ) (l : List ℕ) (p : Put t at a r l) where
+  pub put-then : (b : List ℕ) (r' : ℕ) (l' : List ℕ) → at ≤ length t → Put l r b r' l' → Put t at (a ++ b) r' l'
+  put-then b r' l' h q = (
+    omega (arith, p .0, q .0, length-append a b),
+    q .1 ∙ ap (λ (x : List ℕ). inserted x r b) (p .1) ∙ ap (λ (n : ℕ). inserted (inserted t at a) n b) (p .0) ∙ both t at h a b,
+  )
+
+  pub put-meant : (s : List ℕ) → a ≡ s → Put t at s r l
+  put-meant s e = (p .0 ∙ ap (λ (x : List ℕ). at + length x) e, p .1 ∙ ap (inserted t at) e)
+
+  pub put-length : at + length a ≤ length t → length l ≡ length t
+  put-length h = ap length (p .1) ∙ length-inserted t at a h

@@ -1,0 +1,143 @@
+-- `farm_file::farm_file` meets its contract: each check by its test, in their order, and the slots by what it calls. Assumes nothing.
+use mathlib.Core.Path.{_≡_, refl, sym, ap, _∙_}
+use mathlib.Core.Bool.{Bool, true, false, not}
+use mathlib.Core.List.{List, map}
+use Prim.Native.Nat.{ℕ, _-_, _<_, _≤_}
+use native.Mathlib.Omega.{arith}
+use borrow.Author.Needs.{needs}
+use borrow.Author.Tests.{le-leb, lt-leb, eq-eqb, ne-eqb, not-true, not-false}
+use lib.ListN.{length, length-map}
+use Rattle.number.specs.Answer.{refused, result}
+use Rattle.farm.specs.Directory.{largestFile, sectionCount, boxSections, wellFormed}
+use Rattle.farm.specs.FarmFile.{sized, allFlagged, inView, checked, slotCount, slots, Listing, listing, listed, farmFileCall}
+use Rattle.farm.proofs.SectionsLeft.{as-many}
+use Rattle.farm.proofs.Placed.{at-least}
+use Rattle.farm.proofs.farm_file.farm_file.Statement.{statement}
+use Rattle.farm.proofs.farm_file.farm_file.Tie as tie
+
+module _ (b out : List ℕ) where
+  too-large : largestFile < length b → listing (refused 1) out ≡ farmFileCall b out
+  unfolding farmFileCall
+  too-large h = let e = lt-leb (length b) largestFile h in rw e
+
+  module _ (p : length b ≤ largestFile) where
+    no-room : (length out ≡ slotCount → ⊥) → listing (refused 2) out ≡ farmFileCall b out
+    unfolding farmFileCall
+    no-room h = let e = le-leb (length b) largestFile p in let f = ne-eqb (length out) slotCount h in rw (e, f)
+
+    module _ (q : length out ≡ slotCount) where
+      left : listed (checked b) out ≡ farmFileCall b out
+      unfolding farmFileCall
+      left = let e = le-leb (length b) largestFile p in let f = eq-eqb (length out) slotCount q in rw (e, f)
+
+      malformed : wellFormed b ≡ false → listing (refused 9) out ≡ farmFileCall b out
+      unfolding checked
+      malformed w = rw (← left, w)
+
+      module _ (w : wellFormed b ≡ true) where
+        other-sizes : sized b ≡ false → listing (refused 10) out ≡ farmFileCall b out
+        unfolding checked
+        other-sizes s = rw (← left, w, s)
+
+        module _ (s : sized b ≡ true) where
+          other-flags : allFlagged b ≡ false → listing (refused 3) out ≡ farmFileCall b out
+          unfolding checked
+          other-flags f = rw (← left, w, s, f)
+
+          judged : (n : ℕ) (x : List ℕ) → allFlagged b ≡ true → n ≡ sectionCount b → x ≡ slots (map (inView b) (boxSections b)) → listing (result (n - 1)) x ≡ farmFileCall b out
+          unfolding checked
+          judged n x f e g =
+              let m = length-map (boxSections b) (inView b) ∙ as-many b 1 (sectionCount b - 1) in
+              rw (e, g, ← left, w, s, f) (ap (λ (k : ℕ). listing (result k) (slots (map (inView b) (boxSections b)))) (sym m))
+
+-- a check that was passed, and one that was not
+passed : {r t : Bool} → r ≡ t → not r ≡ false → t ≡ true
+passed {r} e n = sym e ∙ not-false r n
+
+stopped : {r t : Bool} → r ≡ t → not r ≡ true → t ≡ false
+stopped {r} e n = sym e ∙ not-true r n
+
+returns : tie.Need-returns
+returns c = let given = c .before .before .before .args in too-large (given .file .now) (given .out .now) (c .if1 .taken)
+
+returns-2 : tie.Need-returns-2
+returns-2 c = let given = c .before .before .before .before .args in no-room (given .file .now) (given .out .now) (c .before .if1 .left) (c .if2 .taken)
+
+returns-3 : tie.Need-returns-3
+returns-3 c =
+    let form = c .before in
+    let room = form .before in
+    let given = room .before .before .before .before .args in
+    malformed (given .file .now) (given .out .now) (room .before .if1 .left) (room .if2 .left) (stopped (form .is-well-formed .ensures) (c .if3 .taken))
+
+are-sized-requires : tie.Need-are-sized-requires
+are-sized-requires c κs = passed (c .before .is-well-formed .ensures) (c .if3 .left)
+
+returns-4 : tie.Need-returns-4
+returns-4 c =
+    let size = c .before in
+    let form = size .before in
+    let room = form .before .before in
+    let given = room .before .before .before .before .args in
+    other-sizes (given .file .now) (given .out .now) (room .before .if1 .left) (room .if2 .left) (passed (form .before .is-well-formed .ensures) (form .if3 .left))
+    (stopped (size .are-sized .ensures) (c .if4 .taken))
+
+are-flagged-requires : tie.Need-are-flagged-requires
+are-flagged-requires c κs =
+    let form = c .before .before in
+    (passed (form .before .is-well-formed .ensures) (form .if3 .left), passed (c .before .are-sized .ensures) (c .if4 .left))
+
+returns-5 : tie.Need-returns-5
+returns-5 c =
+    let flag = c .before in
+    let size = flag .before in
+    let form = size .before .before in
+    let room = form .before .before in
+    let given = room .before .before .before .before .args in
+    other-flags (given .file .now) (given .out .now) (room .before .if1 .left) (room .if2 .left) (passed (form .before .is-well-formed .ensures) (form .if3 .left))
+    (passed (size .before .are-sized .ensures) (size .if4 .left)) (stopped (flag .are-flagged .ensures) (c .if5 .taken))
+
+judge-requires : tie.Need-judge-requires
+judge-requires c κs =
+    let flag = c .before in
+    let size = flag .before .before in
+    let form = size .before .before in (
+      passed (form .before .is-well-formed .ensures) (form .if3 .left),
+      passed (size .before .are-sized .ensures) (size .if4 .left),
+      passed (flag .before .are-flagged .ensures) (flag .if5 .left),
+      form .before .before .if2 .left,
+    )
+
+sub-result : tie.Need-sub-t15
+sub-result c =
+    let form = c .before .before .before .before .before .before .before .before .before in
+    omega (arith, c .word-32 .ensures, at-least _ (passed (form .before .is-well-formed .ensures) (form .if3 .left)))
+
+returns-6 : tie.Need-returns-6
+returns-6 c =
+    let called = c .before .before .before in
+    let flag = called .before .before in
+    let size = flag .before .before in
+    let form = size .before .before in
+    let room = form .before .before in
+    let given = room .before .before .before .before .args in
+    judged (given .file .now) (given .out .now) (room .before .if1 .left) (room .if2 .left) (passed (form .before .is-well-formed .ensures) (form .if3 .left))
+    (passed (size .before .are-sized .ensures) (size .if4 .left)) _ _ (passed (flag .before .are-flagged .ensures) (flag .if5 .left)) (c .word-32 .ensures) (called .judge .ensures)
+
+pub farm-file-spec : {M : Type 1} → statement M
+farm-file-spec =
+    tie.close
+    (tie.spec
+    returns
+    returns-2
+    (λ c κs. tt)
+    returns-3
+    are-sized-requires
+    returns-4
+    are-flagged-requires
+    returns-5
+    judge-requires
+    (λ c κs. tt)
+    sub-result
+    (λ c. search needs)
+    returns-6)

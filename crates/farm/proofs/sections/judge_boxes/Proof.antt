@@ -1,0 +1,109 @@
+-- `sections::judge_boxes` meets its contract: the boxes passed have their slots, and the others none. Assumes nothing.
+use mathlib.Core.Path.{_≡_, refl, sym, ap, _∙_}
+use mathlib.Core.List.{List, [], map}
+use Prim.Native.Nat.{ℕ, _+_, _-_, _≤_}
+use native.Mathlib.Omega.{arith}
+use borrow.Author.Needs.{needs}
+use lib.ListN.{length, length-set}
+use Rattle.farm.specs.Directory.{sectionCount, sectionsFrom, boxSections}
+use Rattle.farm.specs.FarmFile.{inView, slotCount, noBox, slots}
+use Rattle.farm.proofs.Placed.{at-least, at-most}
+use Rattle.farm.proofs.Slots.{judged, none-judged, next-judged, volume-length, inside, is-flagged, slot-is}
+use Rattle.farm.proofs.sections.judge_boxes.Statement.{statement}
+use Rattle.farm.proofs.sections.judge_boxes.Tie as tie
+
+abbrev Inv-loop : tie.InvT-loop
+Inv-loop volume file out₀ boxes i₀ out i = (i ≤ boxes) × (out ≡ slots (judged file i)) × (length out ≡ slotCount)
+
+abbrev μ-loop : tie.MeasureT-loop
+μ-loop volume file out₀ boxes i₀ out i = boxes - i
+
+no-box : (b : List ℕ) → slots [] ≡ slots (judged b 0)
+unfolding sectionsFrom
+no-box b = refl
+
+none-yet : (b : List ℕ) → length (slots (judged b 0)) ≡ slotCount
+unfolding sectionsFrom
+none-yet b = refl
+
+loop-holds : tie.Need-loop-holds Inv-loop μ-loop
+loop-holds c =
+    let cleared = c .before .before .before in
+    let start = cleared .before .before .before .before .before in
+    let e = cleared .clear .ensures ∙ none-judged _ (start .pre .1 .1) ∙ no-box (start .args .file .now) in
+    (omega arith, e, ap length e ∙ none-yet (start .args .file .now))
+
+loop-again : tie.Need-loop-again Inv-loop μ-loop
+loop-again c =
+    let at = c .before .before in
+    let l = at .before .before .loop in
+    let counted = at .before .before .before in
+    let start = counted .before .before .before .before .before .before .before .before in
+    let b = start .args .file .now in
+    let n = counted .word-32 .ensures in
+    let most = at-most b (start .pre .0 .0) in
+    let slot = slot-is b (start .pre .0 .1) (l .i) (omega (arith, n)) _ (at .section-at .ensures) (start .args .volume .now) _ (start .pre .1 .0) (c .judged .ensures) in
+    (omega arith, next-judged b (l .i) _ (l .out) (omega (arith, n, most)) (l .inv .1) slot, simp length-set (l .inv .2))
+
+returns : tie.Need-returns Inv-loop μ-loop
+returns c =
+    let l = c .before .loop in
+    let counted = c .before .before in
+    let start = counted .before .before .before .before .before .before .before .before in
+    let b = start .args .file .now in
+    let n = counted .word-32 .ensures in
+    l .inv .1 ∙ ap (λ (k : ℕ). slots (judged b k)) (omega (arith, n, at-least b (start .pre .0 .0)))
+
+section-at-requires : tie.Need-section-at-requires Inv-loop μ-loop
+section-at-requires c κs =
+    let counted = c .before .before in
+    let start = counted .before .before .before .before .before .before .before .before in
+    omega (arith, counted .word-32 .ensures, at-most _ (start .pre .0 .0))
+
+slice-write-out : tie.Need-slice-write-out Inv-loop μ-loop
+slice-write-out c =
+    let counted = c .before .before .before .before .before in
+    let start = counted .before .before .before .before .before .before .before .before in
+    omega (arith, counted .word-32 .ensures, at-most _ (start .pre .0 .0))
+
+same-length : tie.Need-same-length Inv-loop μ-loop
+same-length c =
+    let start = c .before .before .before .before .before .before .before .before .before .before in
+    c .before .loop .inv .2 ∙ sym (start .pre .1 .1)
+
+judged-requires : tie.Need-judged-requires Inv-loop μ-loop
+judged-requires c κs =
+    let at = c .before in
+    let l = at .before .before .loop in
+    let counted = at .before .before .before in
+    let start = counted .before .before .before .before .before .before .before .before in
+    let b = start .args .file .now in
+    let sizes = start .pre .0 .1 in
+    let n = counted .word-32 .ensures in (
+      ap length (start .pre .1 .0) ∙ volume-length b sizes,
+      inside b sizes (l .i) (omega (arith, n)) _ (at .section-at .ensures) (start .pre .0 .0),
+      is-flagged b sizes (l .i) (omega (arith, n)) _ (at .section-at .ensures) (start .pre .0 .2),
+    )
+
+pub judge-boxes-spec : {M : Type 1} → statement M
+judge-boxes-spec =
+    tie.close
+    (tie.spec
+    Inv-loop
+    μ-loop
+    (λ c κs. tt)
+    (λ c κs. tt)
+    (λ c. search needs)
+    (λ c. let start = c .before .before .before .before .before .before .before .before in omega (arith, at-least _ (start .pre .0 .0), c .word-32 .ensures))
+    loop-holds
+    (λ c. omega arith)
+    section-at-requires
+    (λ c. search needs)
+    judged-requires
+    (λ c. omega arith)
+    slice-write-out
+    (λ c. omega arith)
+    (λ c. omega arith)
+    loop-again
+    same-length
+    returns)

@@ -1,0 +1,86 @@
+-- What a farm file comes to: a verdict for each of its boxes, or the number of its refusal; and what a call leaves. Definitions only.
+use Prim.Native.Nat.{ℕ, _-_, _*_}
+use mathlib.Core.Bool.{Bool, true, cond, _&&_}
+use mathlib.Core.List.{List, [], _∷_, _++_, map}
+use lib.Dec.{eqb, leb}
+use lib.ListN.{length, replicate}
+use Rattle.number.specs.Answer.{Outcome, refused, result, unless, numberOf}
+use Rattle.verdict.specs.BBox.{boxOf as loadedBox}
+use Rattle.verdict.specs.BBoxCalls.{flagged}
+use Rattle.verdict.specs.Volume.{volumeLength, planesOf}
+use Rattle.verdict.specs.Frustum.{boxOf}
+use Rattle.farm.specs.declared.directory.Section.{Section}
+use Rattle.farm.specs.declared.farm_file.Counted.{Counted}
+use Rattle.farm.specs.declared.farm_file.Counted.the-variants.{Boxes, Refused}
+use Rattle.farm.specs.Directory.{largestFile, mostSections, wellFormed, volumeSection, boxSections, numbersOf}
+
+-- every section passes the test
+unfoldable pub every : (Section → Bool) → List Section → Bool
+every test [] = true
+every test (s ∷ ss) = test s && every test ss
+
+-- no "section length differs from its record"
+unfoldable pub sized : List ℕ → Bool
+unfolding every
+sized b = eqb (volumeSection b .size) (8 * volumeLength) && every (λ s. eqb (s .size) (8 * 23)) (boxSections b)
+
+-- the flag of every box is 0 or 1
+unfoldable pub allFlagged : List ℕ → Bool
+unfolding every
+allFlagged b = every (λ s. flagged (numbersOf b s)) (boxSections b)
+
+-- whether the box of a section is in view: the verdict of `intersects_bbox`
+abbrev pub inView : List ℕ → Section → Bool
+inView b s = boxOf (planesOf (numbersOf b (volumeSection b))) (loadedBox (numbersOf b s))
+
+-- a file that is not too large, by its checks in their order: each is made of the whole file before the next
+unfoldable pub checked : List ℕ → Outcome (List Bool)
+unfolding sized allFlagged
+checked b = unless (wellFormed b) (refused 9) (unless (sized b) (refused 10) (unless (allFlagged b) (refused 3) (result (map (inView b) (boxSections b)))))
+
+-- any file: "1 if the file exceeds 65,536 bytes"
+unfoldable pub farmFile : List ℕ → Outcome (List Bool)
+unfolding checked
+farmFile b = unless (leb (length b) largestFile) (refused 1) (checked b)
+
+-- ---- a call
+
+-- A slot for each box that a file can have: 1 for a box in view, 0 for one that is not, and 4,294,967,295 where there is none.
+abbrev pub slotCount : ℕ
+slotCount = mostSections - 1
+
+abbrev pub slotOf : Bool → ℕ
+slotOf v = cond v 1 0
+
+abbrev pub noBox : ℕ
+noBox = 4294967295
+
+abbrev pub slotFor : Outcome Bool → ℕ
+slotFor (refused k) = noBox
+slotFor (result v) = slotOf v
+
+abbrev pub slots : List Bool → List ℕ
+slots vs = map slotOf vs ++ replicate (slotCount - length vs) noBox
+
+-- What a call leaves: how many boxes there are or the number of its refusal, and what the slots hold.
+pub record Listing : Type 0 where
+  pub boxes : Outcome ℕ
+  pub out : List ℕ
+
+abbrev pub listing : Outcome ℕ → List ℕ → Listing
+listing n out = record { boxes = n; out = out }
+
+abbrev pub countOf : Counted → Outcome ℕ
+countOf (Boxes n) = result n
+countOf (Refused r) = refused (numberOf r)
+
+-- a refusal preserves the slots
+abbrev pub listed : Outcome (List Bool) → List ℕ → Listing
+listed (refused k) out = listing (refused k) out
+listed (result vs) out = listing (result (length vs)) (slots vs)
+
+-- "1, 2, then 9, 10, 3": 2 where there are not as many slots
+unfoldable pub farmFileCall : List ℕ → List ℕ → Listing
+unfolding checked
+farmFileCall b out =
+    unless (leb (length b) largestFile) (listing (refused 1) out) (unless (eqb (length out) slotCount) (listing (refused 2) out) (listed (checked b) out))

@@ -1,0 +1,68 @@
+-- The lines that a farm file gives, as bytes in ASCII. Definitions only.
+use Prim.Native.Nat.{ℕ, suc, _+_, _*_, _/_, _%_}
+use mathlib.Core.Bool.{Bool, cond}
+use mathlib.Core.List.{List, [], _∷_, _++_, map}
+use lib.Dec.{eqb, leb, ltb}
+use lib.ListN.{length, take, drop}
+use Rattle.number.specs.Answer.{Outcome, refused, result}
+use Rattle.farm.specs.FarmFile.{slotCount, farmFile}
+
+-- a number below 100: its digits from '0' on
+unfoldable pub decimal : ℕ → List ℕ
+decimal n = cond (ltb n 10) ((48 + n) ∷ []) ((48 + n / 10) ∷ (48 + n % 10) ∷ [])
+
+-- " yes" or " no", and the line's end
+abbrev pub yesOrNo : Bool → List ℕ
+yesOrNo v = cond v (32 ∷ 121 ∷ 101 ∷ 115 ∷ 10 ∷ []) (32 ∷ 110 ∷ 111 ∷ 10 ∷ [])
+
+-- "section number, space and its box verdict, `yes` or `no`"
+unfoldable pub line : ℕ → Bool → List ℕ
+unfolding decimal
+line k v = decimal k ++ yesOrNo v
+
+-- "a line for each box, in section order", from section k on
+unfoldable pub linesFrom : ℕ → List Bool → List ℕ
+unfolding line
+linesFrom k [] = []
+linesFrom k (v ∷ vs) = line k v ++ linesFrom (suc k) vs
+
+abbrev pub refusedWord : List ℕ
+refusedWord = 114 ∷ 101 ∷ 102 ∷ 117 ∷ 115 ∷ 101 ∷ 100 ∷ 32 ∷ []
+
+-- "only the line `refused`, a space and its number"
+unfoldable pub refusedLine : ℕ → List ℕ
+unfolding decimal
+refusedLine n = refusedWord ++ decimal n ++ (10 ∷ [])
+
+unfoldable pub linesOf : Outcome (List Bool) → List ℕ
+unfolding refusedLine linesFrom
+linesOf (refused n) = refusedLine n
+linesOf (result vs) = linesFrom 1 vs
+
+-- ---- a call
+
+-- what a text holds after bytes were put there from a place on
+abbrev pub inserted : List ℕ → ℕ → List ℕ → List ℕ
+inserted text at s = take at text ++ s ++ drop (at + length s) text
+
+-- room for the lines of every file: a line has 7 bytes at most
+abbrev pub textRoom : ℕ
+textRoom = 7 * slotCount
+
+-- What a call leaves: how many bytes it put in front of the text, and what that holds.
+pub record Printed : Type 0 where
+  pub size : ℕ
+  pub text : List ℕ
+
+abbrev pub printed : ℕ → List ℕ → Printed
+printed n text = record { size = n; text = text }
+
+-- none where there is no room
+unfoldable pub linesCall : List ℕ → List ℕ → Printed
+unfolding farmFile linesOf
+linesCall b text = let s = linesOf (farmFile b) in cond (leb textRoom (length text)) (printed (length s) (inserted text 0 s)) (printed 0 text)
+
+-- ---- what private functions promise one another: the verdicts of slots
+
+abbrev pub isYes : ℕ → Bool
+isYes slot = eqb slot 1

@@ -1,0 +1,27 @@
+-- What is claimed of the bytes of a farm file: where its sections lie, and which bytes its answer depends on. Statements only.
+use Prim.Native.Nat.{ℕ, _<_, _≤_}
+use mathlib.Core.Path.{_≡_}
+use mathlib.Core.Bool.{Bool}
+use mathlib.Core.List.{List}
+use lib.ListN.{length, getD}
+use Rattle.number.specs.Answer.{result}
+use Rattle.farm.specs.Directory.{sectionCount, sectionAt, directoryEnd, endOf}
+use Rattle.farm.specs.FarmFile.{farmFile}
+
+-- Every section lies behind the directory and in the file, and no two overlap.
+pub record SectionsApart (b : List ℕ) : Type 0 where
+  pub inside : (i : ℕ) → i < sectionCount b → (directoryEnd (sectionCount b) ≤ sectionAt b i .offset) × (endOf (sectionAt b i) ≤ length b)
+  pub apart : (i j : ℕ) → i < j → j < sectionCount b → endOf (sectionAt b i) ≤ sectionAt b j .offset
+
+-- of every file that has an answer
+abbrev pub AnsweredApart : Type 0
+AnsweredApart = (b : List ℕ) (vs : List Bool) → farmFile b ≡ result vs → SectionsApart b
+
+-- "Gaps are permitted and unread." A gap is what is neither of the directory nor of a section; these files agree elsewhere.
+pub record AgreeOutsideGaps (b c : List ℕ) : Type 0 where
+  pub size : length b ≡ length c
+  pub directory : (i : ℕ) → i < directoryEnd (sectionCount b) → getD b i 0 ≡ getD c i 0
+  pub sections : (k i : ℕ) → k < sectionCount b → sectionAt b k .offset ≤ i → i < endOf (sectionAt b k) → getD b i 0 ≡ getD c i 0
+
+abbrev pub GapsUnread : Type 0
+GapsUnread = (b c : List ℕ) → AgreeOutsideGaps b c → farmFile b ≡ farmFile c

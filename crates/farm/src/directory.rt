@@ -1,0 +1,75 @@
+// The directory of a farm file: a count of sections, then where each begins and how many bytes it has.
+ghost use mathlib.Core.Path.{_≡_};
+ghost use Prim.Native.Nat.{_<_, _≤_};
+ghost use lib.ListN.{length};
+ghost use Rattle.farm.specs.Directory.{mostSections, sectionAt, sectionsFrom, directoryEnd, endOf, inOrder, wellFormed};
+use number::bytes::word_32;
+
+const FEWEST_SECTIONS: usize = 2;
+
+pub(crate) const MOST_SECTIONS: usize = 64;
+
+pub struct Section {
+    pub offset: u32,
+    pub size: u32,
+}
+
+impl Section {
+    // Just behind its last byte: a sum that may have more than 32 bits.
+    fn end(self) -> usize
+        ensures { λ r. ⌜ r ≡ endOf self ⌝ }
+    {
+        self.offset as usize + self.size as usize
+    }
+}
+
+pub(crate) fn section_at(file: &[u8], i: usize) -> Section
+    requires { ⌜ i < mostSections ⌝ }
+    ensures { λ r. ⌜ r ≡ sectionAt (now (file .entry)) i ⌝ }
+{
+    Section {
+        offset: word_32(file, 4 + 8 * i),
+        size: word_32(file, 8 + 8 * i),
+    }
+}
+
+// Whether no section starts before the end of the directory or of the section before it, or passes the end of the file.
+fn in_order(file: &[u8], count: usize) -> bool
+    requires { ⌜ count ≤ mostSections ⌝ }
+    ensures { λ r. ⌜ r ≡ inOrder (directoryEnd count) (length (now (file .entry))) (sectionsFrom (now (file .entry)) 0 count) ⌝ }
+{
+    let mut from: usize = 4 + 8 * count;
+    let mut i: usize = 0;
+    while i < count {
+        let section = section_at(file, i);
+        if (section.offset as usize) < from {
+            return false;
+        }
+        let end = section.end();
+        if file.len() < end {
+            return false;
+        }
+        from = end;
+        i += 1;
+    }
+    true
+}
+
+pub(crate) fn is_well_formed(file: &[u8]) -> bool
+    ensures { λ r. ⌜ r ≡ wellFormed (now (file .entry)) ⌝ }
+{
+    if file.len() < 4 {
+        return false;
+    }
+    let count = word_32(file, 0) as usize;
+    if count < FEWEST_SECTIONS {
+        return false;
+    }
+    if MOST_SECTIONS < count {
+        return false;
+    }
+    if file.len() < 4 + 8 * count {
+        return false;
+    }
+    in_order(file, count)
+}

@@ -1,0 +1,59 @@
+// What a farm file comes to: a verdict for each of its boxes, or why it is refused.
+ghost use mathlib.Core.Path.{_≡_};
+ghost use Rattle.number.specs.Answer.{lone, put};
+ghost use Rattle.farm.specs.FarmFile.{listing, countOf, farmFileCall};
+use crate::directory::is_well_formed;
+use crate::sections::are_flagged;
+use crate::sections::are_sized;
+use crate::sections::judge;
+use number::answer::Refusal;
+use number::bytes::word_32;
+
+const LARGEST_FILE: usize = 65536;
+
+// A slot for each box that a file can have.
+const SLOT_COUNT: usize = 63;
+
+// How many boxes a file has, or why it is refused.
+pub enum Counted {
+    Boxes(u32),
+    Refused(Refusal),
+}
+
+impl Counted {
+    // The count, where there is one, to where it is lent; 0, or the number of the refusal.
+    pub fn put(self, out: &mut u32) -> u32
+        ensures { λ r. ⌜ lone r (now (out .exit)) ≡ put (countOf self) (now (out .entry)) ⌝ }
+    {
+        match self {
+            Counted::Boxes(n) => {
+                *out = n;
+                0
+            }
+            Counted::Refused(r) => r.number(),
+        }
+    }
+}
+
+// The verdict of each box to its slot: 1 for a box in view and 0 for one that is not.
+pub fn farm_file(file: &[u8], out: &mut [u32]) -> Counted
+    ensures { λ r. ⌜ listing (countOf r) (now (out .exit)) ≡ farmFileCall (now (file .entry)) (now (out .entry)) ⌝ }
+{
+    if LARGEST_FILE < file.len() {
+        return Counted::Refused(Refusal::InputLength);
+    }
+    if out.len() != SLOT_COUNT {
+        return Counted::Refused(Refusal::OutputLength);
+    }
+    if !is_well_formed(file) {
+        return Counted::Refused(Refusal::Directory);
+    }
+    if !are_sized(file) {
+        return Counted::Refused(Refusal::SectionLength);
+    }
+    if !are_flagged(file) {
+        return Counted::Refused(Refusal::Kind);
+    }
+    judge(file, out);
+    Counted::Boxes(word_32(file, 0) - 1)
+}

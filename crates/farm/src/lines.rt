@@ -1,0 +1,84 @@
+// The lines that a farm file gives, as bytes.
+ghost use mathlib.Core.Path.{_≡_};
+ghost use mathlib.Core.List.{_++_, map};
+ghost use Prim.Native.Nat.{_+_, _*_, _<_, _≤_};
+ghost use lib.ListN.{length, take};
+ghost use Rattle.farm.specs.FarmFile.{slotCount};
+ghost use Rattle.farm.specs.Lines.{decimal, line, linesFrom, refusedLine, inserted, printed, linesCall, isYes};
+use crate::farm_file::Counted;
+use crate::farm_file::farm_file;
+
+// Room for the lines of any file.
+const TEXT_ROOM: usize = 441;
+
+// Bytes to a place of a text; answers the place behind them.
+fn put(text: &mut [u8], at: usize, bytes: &[u8]) -> usize
+    requires { ⌜ at + length (now bytes) ≤ length (now text) ⌝ }
+    ensures { λ r. ⌜ (r ≡ at + length (now (bytes .entry))) × (now (text .exit) ≡ inserted (now (text .entry)) at (now (bytes .entry))) ⌝ }
+{
+    at + bytes::copy(bytes, &mut text[at..])
+}
+
+// The digits of a number.
+fn put_decimal(text: &mut [u8], at: usize, n: u32) -> usize
+    requires { ⌜ (n < 100) × (at + 2 ≤ length (now text)) ⌝ }
+    ensures { λ r. ⌜ (r ≡ at + length (decimal n)) × (now (text .exit) ≡ inserted (now (text .entry)) at (decimal n)) ⌝ }
+{
+    if n < 10 {
+        let digit = [48 + n as u8];
+        return put(text, at, &digit);
+    }
+    let digits = [48 + (n / 10) as u8, 48 + (n % 10) as u8];
+    put(text, at, &digits)
+}
+
+// The line of a box.
+fn put_line(text: &mut [u8], at: usize, place: u32, yes: bool) -> usize
+    requires { ⌜ (place < 100) × (at + 7 ≤ length (now text)) ⌝ }
+    ensures { λ r. ⌜ (r ≡ at + length (line place yes)) × (now (text .exit) ≡ inserted (now (text .entry)) at (line place yes)) ⌝ }
+{
+    let behind = put_decimal(text, at, place);
+    if yes {
+        return put(text, behind, b" yes\n");
+    }
+    put(text, behind, b" no\n")
+}
+
+// The lines of the first boxes, by their slots.
+fn put_lines(text: &mut [u8], slots: &[u32], count: usize) -> usize
+    requires { ⌜ (count ≤ length (now slots)) × (count ≤ slotCount) × (7 * count ≤ length (now text)) ⌝ }
+    ensures { λ r. ⌜ (r ≡ length (linesFrom 1 (map isYes (take count (now (slots .entry)))))) × (now (text .exit) ≡ inserted (now (text .entry)) 0 (linesFrom 1 (map isYes (take count (now (slots .entry)))))) ⌝ }
+{
+    let mut at: usize = 0;
+    let mut i: usize = 0;
+    while i < count {
+        at = put_line(text, at, i as u32 + 1, slots[i] == 1);
+        i += 1;
+    }
+    at
+}
+
+// The line of a refused file.
+fn put_refused(text: &mut [u8], number: u32) -> usize
+    requires { ⌜ (number < 100) × (11 ≤ length (now text)) ⌝ }
+    ensures { λ r. ⌜ (r ≡ length (refusedLine number)) × (now (text .exit) ≡ inserted (now (text .entry)) 0 (refusedLine number)) ⌝ }
+{
+    let named = put(text, 0, b"refused ");
+    let numbered = put_decimal(text, named, number);
+    put(text, numbered, b"\n")
+}
+
+// The lines that a file gives, to the front of a text with room for those of any file; answers how many bytes they have.
+pub fn lines(file: &[u8], text: &mut [u8]) -> usize
+    ensures { λ r. ⌜ printed r (now (text .exit)) ≡ linesCall (now (file .entry)) (now (text .entry)) ⌝ }
+{
+    if text.len() < TEXT_ROOM {
+        return 0;
+    }
+    let mut slots = [0u32; 63];
+    let answer = farm_file(file, &mut slots);
+    match answer {
+        Counted::Boxes(n) => put_lines(text, &slots, n as usize),
+        Counted::Refused(r) => put_refused(text, r.number()),
+    }
+}

@@ -1,0 +1,127 @@
+// The sections of a well-formed farm file: their sizes, the flags of its boxes, and whether each box is in view.
+ghost use mathlib.Core.Path.{_≡_};
+ghost use mathlib.Core.Bool.{true};
+ghost use mathlib.Core.List.{map};
+ghost use Prim.Native.Nat.{_+_, _*_, _≤_};
+ghost use lib.ListN.{length, replicate};
+ghost use Rattle.number.specs.Answer.{verdictOf};
+ghost use Rattle.number.specs.Bytes.{numbersAt};
+ghost use Rattle.verdict.specs.BBox.{boxOf as loadedBox};
+ghost use Rattle.verdict.specs.BBoxCalls.{flagged};
+ghost use Rattle.verdict.specs.Volume.{volumeLength, planesOf};
+ghost use Rattle.verdict.specs.Frustum.{boxOf};
+ghost use Rattle.farm.specs.Directory.{wellFormed, volumeSection, boxSections, numbersOf};
+ghost use Rattle.farm.specs.FarmFile.{sized, allFlagged, inView, slotCount, slotOf, slotFor, noBox, slots};
+use crate::directory::section_at;
+use number::answer::Verdict;
+use number::bytes::load;
+use number::bytes::number_at;
+use number::bytes::word_32;
+use verdict::bbox::is_flag;
+use verdict::frustum_calls::intersects_bbox;
+
+// 48 numbers of 8 bytes.
+const VOLUME_SIZE: u32 = 384;
+
+// 23 numbers.
+const BOX_SIZE: u32 = 184;
+
+// Where the flag, the last of a box's numbers, stands among its bytes.
+const FLAG_START: usize = 176;
+
+const NO_BOX: u32 = 4294967295;
+
+// Whether every section has as many bytes as its record.
+pub(crate) fn are_sized(file: &[u8]) -> bool
+    requires { ⌜ wellFormed (now file) ≡ true ⌝ }
+    ensures { λ r. ⌜ r ≡ sized (now (file .entry)) ⌝ }
+{
+    let count = word_32(file, 0) as usize;
+    if section_at(file, 0).size != VOLUME_SIZE {
+        return false;
+    }
+    let mut i: usize = 1;
+    while i < count {
+        if section_at(file, i).size != BOX_SIZE {
+            return false;
+        }
+        i += 1;
+    }
+    true
+}
+
+// Whether the flag of every box is 0 or 1.
+pub(crate) fn are_flagged(file: &[u8]) -> bool
+    requires { ⌜ (wellFormed (now file) ≡ true) × (sized (now file) ≡ true) ⌝ }
+    ensures { λ r. ⌜ r ≡ allFlagged (now (file .entry)) ⌝ }
+{
+    let count = word_32(file, 0) as usize;
+    let mut i: usize = 1;
+    while i < count {
+        let start = section_at(file, i).offset as usize;
+        if !is_flag(number_at(file, start + FLAG_START)) {
+            return false;
+        }
+        i += 1;
+    }
+    true
+}
+
+// The slot of a verdict; none of a box that was refused.
+fn slot(verdict: Verdict) -> u32
+    ensures { λ r. ⌜ r ≡ slotFor (verdictOf verdict) ⌝ }
+{
+    match verdict {
+        Verdict::Yes => 1,
+        Verdict::No => 0,
+        Verdict::Refused(_) => NO_BOX,
+    }
+}
+
+// The slot of the box that starts at a place.
+fn judged(volume: &[f64], file: &[u8], start: usize) -> u32
+    requires { ⌜ (length (now volume) ≡ volumeLength) × (start + 8 * 23 ≤ length (now file)) × (flagged (numbersAt (now file) start 23) ≡ true) ⌝ }
+    ensures { λ r. ⌜ r ≡ slotOf (boxOf (planesOf (now (volume .entry))) (loadedBox (numbersAt (now (file .entry)) start 23))) ⌝ }
+{
+    let mut numbers = [0.0f64; 23];
+    load(file, start, &mut numbers);
+    slot(intersects_bbox(volume, &numbers))
+}
+
+// No box in any slot.
+fn clear(out: &mut [u32])
+    ensures { λ _. ⌜ now (out .exit) ≡ replicate (length (now (out .entry))) noBox ⌝ }
+{
+    let mut i: usize = 0;
+    while i < out.len() {
+        out[i] = NO_BOX;
+        i += 1;
+    }
+}
+
+// The slots of all boxes, by the numbers of the volume.
+fn judge_boxes(volume: &[f64], file: &[u8], out: &mut [u32])
+    requires { ⌜ (wellFormed (now file) ≡ true) × (sized (now file) ≡ true) × (allFlagged (now file) ≡ true) ⌝ }
+    requires { ⌜ (now volume ≡ numbersOf (now file) (volumeSection (now file))) × (length (now out) ≡ slotCount) ⌝ }
+    ensures { λ _. ⌜ now (out .exit) ≡ slots (map (inView (now (file .entry))) (boxSections (now (file .entry)))) ⌝ }
+{
+    clear(out);
+    let boxes = word_32(file, 0) as usize - 1;
+    let mut i: usize = 0;
+    while i < boxes {
+        let start = section_at(file, i + 1).offset as usize;
+        out[i] = judged(volume, file, start);
+        i += 1;
+    }
+}
+
+// The slots of all boxes of a file.
+pub(crate) fn judge(file: &[u8], out: &mut [u32])
+    requires { ⌜ (wellFormed (now file) ≡ true) × (sized (now file) ≡ true) × (allFlagged (now file) ≡ true) × (length (now out) ≡ slotCount) ⌝ }
+    ensures { λ _. ⌜ now (out .exit) ≡ slots (map (inView (now (file .entry))) (boxSections (now (file .entry)))) ⌝ }
+{
+    let mut volume = [0.0f64; 48];
+    let start = section_at(file, 0).offset as usize;
+    load(file, start, &mut volume);
+    judge_boxes(&volume, file, out);
+}

@@ -1,0 +1,46 @@
+// Replays recorded farm files, one behind the other on standard input: 32 bits that say how many bytes a file has, the low byte
+// first, and its bytes. For each the program prints its place and its lines.
+use farm::lines::lines;
+use number::bytes::word_32;
+
+fn print_lines(file: &[u8]) {
+    let mut text = [0u8; 441];
+    let size = lines(file, &mut text);
+    io::write_all(1, &text[..size]);
+}
+
+fn print_place(place: u64) {
+    io::write_all(1, b"file ");
+    io::print_decimal(1, place);
+    io::write_all(1, b"\n");
+}
+
+// Reads a file of so many bytes and prints its lines, if there is room for it.
+fn replay_file(place: u64, room: &mut [u8], size: usize) {
+    if room.len() < size {
+        return;
+    }
+    let file = &mut room[0..size];
+    io::read_full(0, file);
+    print_place(place);
+    print_lines(file);
+}
+
+// Replays the next file, and answers whether there was one.
+fn replay_next(place: u64) -> bool {
+    let mut head = [0u8; 4];
+    if io::read_full(0, &mut head) < 4 {
+        return false;
+    }
+    // one byte more than the largest file has
+    let mut room = [0u8; 65537];
+    replay_file(place, &mut room, word_32(&head, 0) as usize);
+    true
+}
+
+fn main() {
+    let mut place: u64 = 1;
+    while place < u64::MAX && replay_next(place) {
+        place += 1;
+    }
+}
