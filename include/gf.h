@@ -120,11 +120,13 @@ uint32_t gf_is_right_handed(const double *m, size_t m_len, uint32_t *out);
  * In: range 6. Out: yes or no. Refuses: 1. */
 uint32_t gf_range_is_empty(const double *range, size_t range_len, uint32_t *out);
 
-/* The range that holds both. An empty one yields the other, and of two empty ones the result is b.
+/* The range that holds both. An empty one yields the other, and of two empty ones the result is b. Elsewhere its numbers are
+ * chosen as by gf_min and gf_max, so that a and b may change places.
  * In: a 6, b 6. Out: 6 numbers. Refuses: 1, 2. */
 uint32_t gf_range_union(const double *a, size_t a_len, const double *b, size_t b_len, double *out, size_t out_len);
 
-/* What both hold: the greater of the least corners, the lesser of the greatest. It is empty where they do not meet.
+/* What both hold: the greater of the least corners, the lesser of the greatest, chosen as by gf_max and gf_min. It is empty
+ * where they do not meet.
  * In: a 6, b 6. Out: 6 numbers. Refuses: 1, 2. */
 uint32_t gf_range_intersection(const double *a, size_t a_len, const double *b, size_t b_len, double *out, size_t out_len);
 
@@ -138,7 +140,7 @@ uint32_t gf_range_midpoint(const double *range, size_t range_len, double *out, s
 uint32_t gf_range_distance_squared(const double *range, size_t range_len, const double *p, size_t p_len, double *out);
 
 /* The range, aligned to the axes, that holds the range moved by m, the last column of m left out. An empty range stays as it
- * is.
+ * is. A bound is -0 just where the translation and the three products added to it are.
  * In: range 6, m 16. Out: 6 numbers. Refuses: 1, 2. */
 uint32_t gf_range_transformed(const double *range, size_t range_len, const double *m, size_t m_len, double *out, size_t out_len);
 
@@ -295,8 +297,8 @@ double gf_sqrt(double x);
 /* The magnitude; some NaN for a NaN. */
 double gf_abs(double x);
 
-/* The smaller and the larger of two numbers. One NaN is passed over, two give a NaN; of equal operands, the two zeros among
- * them, the first is returned. */
+/* The smaller and the larger of two numbers. One NaN is passed over, two give a NaN. Of two zeros the smaller is -0 if either
+ * is, and the larger is 0 if either is. So the operands may change places. */
 double gf_min(double x, double y);
 double gf_max(double x, double y);
 

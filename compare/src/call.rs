@@ -35,7 +35,7 @@ pub struct Call<I> {
 impl<I: Input> Call<I> {
     /// A call with no inputs.
     pub fn new(of: Exported) -> Self {
-        let agrees = if of.gives == Shape::Verdict { judge::equal } else { judge::matches };
+        let agrees = if of.gives == Shape::Verdict { judge::equal } else { judge::signed };
         let drawn = |_, _: &mut Rng| unreachable!("no inputs are given");
         Call { of, agrees, fixed: vec![], drawn, sets: vec![], timed_against: None, recorded: None }
     }
@@ -61,6 +61,12 @@ impl<I: Input> Call<I> {
     /// Its judge is not what it is timed against; the Rust of `other` is.
     pub fn timed_against(mut self, other: Self) -> Self {
         self.timed_against = Some(other.of.rust);
+        self
+    }
+
+    /// Zeros of either sign agree.
+    pub fn zeros_alike(mut self) -> Self {
+        self.agrees = judge::matches;
         self
     }
 

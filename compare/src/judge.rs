@@ -30,7 +30,12 @@ pub fn matches(judge: f64, ours: f64) -> bool {
     judge.to_bits() == ours.to_bits() || (judge.is_nan() && ours.is_nan()) || (judge == 0.0 && ours == 0.0)
 }
 
-/// Equal bits, for results whose zeros have their sign fixed.
+/// Equal bits, or both NaN, where the signs of zeros are fixed.
+pub fn signed(judge: f64, ours: f64) -> bool {
+    judge.to_bits() == ours.to_bits() || (judge.is_nan() && ours.is_nan())
+}
+
+/// Equal bits, for results that hold no NaN besides.
 pub fn equal(judge: f64, ours: f64) -> bool {
     judge.to_bits() == ours.to_bits()
 }
@@ -49,6 +54,16 @@ pub extern "C" fn min(x: f64, y: f64) -> f64 {
 
 pub extern "C" fn max(x: f64, y: f64) -> f64 {
     x.max(y)
+}
+
+/// Paper 02's minimum and maximum: the Rust's where the operands differ; of
+/// zeros the negative one, or the positive one, if either is.
+pub fn least(x: f64, y: f64) -> f64 {
+    if x == y { f64::from_bits(x.to_bits() | y.to_bits()) } else { x.min(y) }
+}
+
+pub fn greatest(x: f64, y: f64) -> f64 {
+    if x == y { f64::from_bits(x.to_bits() & y.to_bits()) } else { x.max(y) }
 }
 
 pub extern "C" fn narrow(x: f64) -> f32 {
@@ -115,6 +130,17 @@ pub fn grid_by_round(p: &[f64; 3]) -> Result<[f64; 3], u32> {
 #[cfg(test)]
 mod tests {
     use super::*;
+
+    #[test]
+    fn zeros_of_two_signs() {
+        for (x, y, low, high) in
+            [(0.0, 0.0, 0.0, 0.0), (0.0, -0.0, -0.0, 0.0), (-0.0, 0.0, -0.0, 0.0), (-0.0, -0.0, -0.0, -0.0)]
+        {
+            assert!(equal(least(x, y), low) && equal(greatest(x, y), high), "{x} {y}");
+        }
+        assert!(equal(least(f64::NAN, -0.0), -0.0) && equal(greatest(1.0, f64::NAN), 1.0));
+        assert!(least(f64::NAN, f64::NAN).is_nan());
+    }
 
     #[test]
     fn the_papers_grid_points() {

@@ -26,6 +26,7 @@ mod record;
 mod run;
 mod rust;
 mod scalar;
+mod signs;
 #[cfg(test)]
 mod slips;
 mod trial;

@@ -180,12 +180,15 @@ fn near(rng: &mut Rng, bits: u64, steps: u64) -> u64 {
 /// Two numbers: unrelated, equal, opposite, or next to each other.
 pub fn pair(rng: &mut Rng) -> [u64; 2] {
     let x = any(rng);
-    match rng.below(6) {
+    match rng.below(8) {
         0..2 => [x, any(rng)],
         2 => [x, x],
         3 => [x, x ^ SIGN],
         4 => [x, near(rng, x, 2)],
-        _ => [ordinary(rng), ordinary(rng)],
+        5 => [ordinary(rng), ordinary(rng)],
+        6 => [rng.sign(), rng.sign()],
+        _ if rng.once_in(2) => [rng.sign(), x],
+        _ => [x, rng.sign()],
     }
 }
 

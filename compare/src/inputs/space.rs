@@ -53,6 +53,11 @@ pub fn signed(rng: &mut Rng, x: f64, steps: u64) -> f64 {
     if rng.once_in(2) { -x } else { x }
 }
 
+/// A zero of either sign.
+pub fn zero(rng: &mut Rng) -> f64 {
+    f64::from_bits(rng.sign())
+}
+
 /// A number that is seldom met.
 pub fn odd(rng: &mut Rng) -> f64 {
     match rng.below(8) {
@@ -292,8 +297,8 @@ pub fn range(rng: &mut Rng) -> Range {
 
 /// Two ranges: unrelated, equal, or alike in some numbers.
 pub fn two_ranges(rng: &mut Rng) -> (Range, Range) {
-    let (a, mut b) = (range(rng), range(rng));
-    match rng.below(4) {
+    let (mut a, mut b) = (range(rng), range(rng));
+    match rng.below(5) {
         0 => {
             for i in 0..6 {
                 if rng.once_in(2) {
@@ -303,9 +308,30 @@ pub fn two_ranges(rng: &mut Rng) -> (Range, Range) {
         }
         1 if rng.once_in(4) => b = a,
         1 => b = a.map(|x| x + 0.0 * x),
+        2 => {
+            for i in 0..6 {
+                if rng.once_in(2) {
+                    (a[i], b[i]) = (zero(rng), zero(rng));
+                }
+            }
+        }
         _ => {}
     }
     (a, b)
+}
+
+/// A range and a matrix; once in four times half their numbers are zeros of
+/// either sign.
+pub fn range_and_matrix(rng: &mut Rng) -> (Range, Matrix) {
+    let (mut r, mut m) = (range(rng), matrix(rng));
+    if rng.once_in(4) {
+        for x in r.iter_mut().chain(&mut m) {
+            if rng.once_in(2) {
+                *x = zero(rng);
+            }
+        }
+    }
+    (r, m)
 }
 
 /// A range and a point: unrelated, or with coordinates at or beside the

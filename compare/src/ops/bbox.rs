@@ -4,6 +4,7 @@ use crate::exported::{call, of_archive};
 use crate::inputs::{self, Boxed, EMPTY, IDENTITY, Matrix, Range, box_of, diagonal, with};
 use crate::op::Op;
 use crate::rust::{boxed, boxed_without_inverse, matrix, of_box, of_range};
+use crate::signs;
 
 pub fn all() -> Vec<Box<dyn Op>> {
     vec![combine(), transform(), volume(), aligned_range(), centroid()]
@@ -79,6 +80,8 @@ fn combine() -> Box<dyn Op> {
         let (a, b) = (boxed(a)?, boxed(b)?);
         Ok(of_box(openusd::gf::BBox3d::combine(&a, &b)))
     })
+    // Of equal zeros the Rust takes either.
+    .zeros_alike()
     .fixed(pairs)
     .drawn(|_, rng| inputs::two_boxes(rng))
     .timed("placed", |_, rng| (inputs::ordinary_box(rng), inputs::ordinary_box(rng)))
@@ -108,11 +111,17 @@ fn volume() -> Box<dyn Op> {
 }
 
 fn aligned_range() -> Box<dyn Op> {
-    call!(204 gf_bbox_aligned_range(b: 23) -> [f64; 6] { Ok(of_range(boxed_without_inverse(b)?.aligned_range())) })
-        .fixed(fixed().into_iter().map(|b| (b,)).collect())
-        .drawn(|_, rng| (inputs::boxed(rng),))
-        .timed("placed", |_, rng| (inputs::ordinary_box(rng),))
-        .op()
+    let rust =
+        call!(204 gf_bbox_aligned_range(b: 23) -> [f64; 6] { Ok(of_range(boxed_without_inverse(b)?.aligned_range())) });
+    call!(204 gf_bbox_aligned_range(b: 23) -> [f64; 6] {
+        boxed_without_inverse(b)?;
+        Ok(signs::transformed(b.first_chunk().expect("a range"), b[6..].first_chunk().expect("a matrix")))
+    })
+    .timed_against(rust)
+    .fixed(fixed().into_iter().map(|b| (b,)).collect())
+    .drawn(|_, rng| (inputs::boxed(rng),))
+    .timed("placed", |_, rng| (inputs::ordinary_box(rng),))
+    .op()
 }
 
 fn centroid() -> Box<dyn Op> {

@@ -40,20 +40,29 @@ fn abs() -> Box<dyn Op> {
 
 fn min() -> Box<dyn Op> {
     let ours = of_archive!(gf_min: fn(x: f64, y: f64) -> f64).map(Two);
-    least_or_greatest(Scalar::new("min", 3, ours, Two(judge::min)))
+    least_or_greatest(
+        Scalar::new("min", 3, ours, Two(judge::min)),
+        |[x, y], rust| if equal(x, y) { x | y } else { rust },
+    )
 }
 
 fn max() -> Box<dyn Op> {
     let ours = of_archive!(gf_max: fn(x: f64, y: f64) -> f64).map(Two);
-    least_or_greatest(Scalar::new("max", 4, ours, Two(judge::max)))
+    least_or_greatest(
+        Scalar::new("max", 4, ours, Two(judge::max)),
+        |[x, y], rust| if equal(x, y) { x & y } else { rust },
+    )
 }
 
-fn least_or_greatest(function: Scalar) -> Box<dyn Op> {
+/// Equal numbers have the same bits, but for the sign of a zero.
+fn equal(x: u64, y: u64) -> bool {
+    f64::from_bits(x) == f64::from_bits(y)
+}
+
+/// Paper 02's rule, where the Rust's answer is expected of operands that differ.
+fn least_or_greatest(function: Scalar, expected: fn(Numbers, u64) -> u64) -> Box<dyn Op> {
     Box::new(Scalar {
-        // Of equal operands the first: paper 01.
-        expected: |[x, y], rust| {
-            if f64::from_bits(x) == f64::from_bits(y) { x } else { rust }
-        },
+        expected,
         notable: inputs::notable_pairs(),
         more: inputs::equal_pairs(),
         systematic: inputs::special_pairs(),

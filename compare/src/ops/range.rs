@@ -1,9 +1,10 @@
 //! Ranges.
 
 use crate::exported::{call, of_archive};
-use crate::inputs::{self, EMPTY, IDENTITY, Range, with};
+use crate::inputs::{self, EMPTY, IDENTITY, Range, Rng, with};
 use crate::op::Op;
 use crate::rust::{matrix, of_corners, of_range, point, range};
+use crate::signs;
 
 pub fn all() -> Vec<Box<dyn Op>> {
     vec![is_empty(), union(), intersection(), midpoint(), distance_squared(), transformed(), corners()]
@@ -42,10 +43,21 @@ fn fixed() -> Vec<Range> {
 fn fixed_pairs() -> Vec<(Range, Range)> {
     let mut pairs: Vec<(Range, Range)> = fixed().into_iter().map(|r| (r, UNIT)).collect();
     pairs.extend(fixed().into_iter().map(|r| (EMPTY, r)));
+    // Zeros of either sign, and a union that comes out empty.
+    let zeros = |bits: u8| -> Range { std::array::from_fn(|i| if bits >> i & 1 == 1 { -0.0 } else { 0.0 }) };
+    pairs.extend([(0, 63), (63, 0), (0b010101, 0b001110), (0b001110, 0b010101)].map(|(a, b)| (zeros(a), zeros(b))));
+    pairs.push(([NAN, NAN, NAN, 0.0, -0.0, 0.0], [5.0, 5.0, 5.0, NAN, NAN, NAN]));
     // Two that are empty, in different ways.
     pairs.push((with(UNIT, &[(0, 2.0)]), with(UNIT, &[(1, 3.0)])));
     pairs.push((with(UNIT, &[(1, 3.0)]), with(UNIT, &[(0, 2.0)])));
     pairs
+}
+
+/// An ordinary range whose least z is 0, as a block's on flat land.
+fn from_zero(rng: &mut Rng) -> Range {
+    let mut r = inputs::ordinary_range(rng);
+    (r[2], r[5]) = (0.0, r[5].abs());
+    r
 }
 
 fn is_empty() -> Box<dyn Op> {
@@ -57,18 +69,24 @@ fn is_empty() -> Box<dyn Op> {
 }
 
 fn union() -> Box<dyn Op> {
-    call!(111 gf_range_union(a: 6, b: 6) -> [f64; 6] { Ok(of_range(range(a).union(range(b)))) })
+    call!(111 gf_range_union(a: 6, b: 6) -> [f64; 6] { Ok(signs::union(a, b)) })
+        .timed_against(call!(111 gf_range_union(a: 6, b: 6) -> [f64; 6] { Ok(of_range(range(a).union(range(b)))) }))
         .fixed(fixed_pairs())
         .drawn(|_, rng| inputs::two_ranges(rng))
         .timed("ordinary", |_, rng| (inputs::ordinary_range(rng), inputs::ordinary_range(rng)))
+        .timed("z from 0", |_, rng| (from_zero(rng), from_zero(rng)))
         .op()
 }
 
 fn intersection() -> Box<dyn Op> {
-    call!(112 gf_range_intersection(a: 6, b: 6) -> [f64; 6] { Ok(of_range(range(a).intersection(range(b)))) })
+    let rust =
+        call!(112 gf_range_intersection(a: 6, b: 6) -> [f64; 6] { Ok(of_range(range(a).intersection(range(b)))) });
+    call!(112 gf_range_intersection(a: 6, b: 6) -> [f64; 6] { Ok(signs::intersection(a, b)) })
+        .timed_against(rust)
         .fixed(fixed_pairs())
         .drawn(|_, rng| inputs::two_ranges(rng))
         .timed("ordinary", |_, rng| (inputs::ordinary_range(rng), inputs::ordinary_range(rng)))
+        .timed("z from 0", |_, rng| (from_zero(rng), from_zero(rng)))
         .op()
 }
 
@@ -112,11 +130,21 @@ fn transformed() -> Box<dyn Op> {
         (UNIT, with(turned, &[(3, 1.0), (7, NAN), (11, FAR), (15, 0.0)])),
         (UNIT, with(IDENTITY, &[(0, FAR)])),
         ([-1.0, -1.0, -1.0, 1.0, 1.0, 1.0], with(IDENTITY, &[(1, -3.0), (6, 0.1), (8, -0.7)])),
+        // All products and the translation -0, and all but one.
+        ([-0.0; 6], [1.0, 1.0, 1.0, 0.0, 1.0, 1.0, 1.0, 0.0, 1.0, 1.0, 1.0, 0.0, -0.0, -0.0, 0.0, 1.0]),
+        (
+            [-0.0, -0.0, -0.0, 0.0, -0.0, -0.0],
+            [1.0, 1.0, 1.0, 0.0, 1.0, 1.0, 1.0, 0.0, 1.0, 1.0, 1.0, 0.0, -0.0, -0.0, -0.0, 1.0],
+        ),
     ]);
-    call!(115 gf_range_transformed(r: 6, m: 16) -> [f64; 6] { Ok(of_range(range(r).transformed(matrix(m)))) })
+    let rust =
+        call!(115 gf_range_transformed(r: 6, m: 16) -> [f64; 6] { Ok(of_range(range(r).transformed(matrix(m)))) });
+    call!(115 gf_range_transformed(r: 6, m: 16) -> [f64; 6] { Ok(signs::transformed(r, m)) })
+        .timed_against(rust)
         .fixed(fixed)
-        .drawn(|_, rng| (inputs::range(rng), inputs::matrix(rng)))
+        .drawn(|_, rng| inputs::range_and_matrix(rng))
         .timed("placements", |_, rng| (inputs::ordinary_range(rng), inputs::placement(rng)))
+        .timed("identity, z from 0", |_, rng| (from_zero(rng), IDENTITY))
         .op()
 }
 

@@ -10,7 +10,8 @@ use mathlib.Core.Bool.{Bool, true, false, not, _&&_, _||_, cond}
 use lib.Dec.{T, T-not, eqb, ltb→lt, lt→ltb, eqb→eq}
 use lib.Ieee.{Float, nan, inf, fin, up, down, below, level, lt, eq, le, isNan}
 use lib.Ieee.Fits.{down-pos, eq→eqb, and-i, and-l, and-r}
-use Rattle.number.specs.Arithmetic.{minOf, maxOf}
+use Rattle.number.specs.Arithmetic.{precedes, minOf, maxOf}
+use Rattle.number.proofs.Extremes.{precedes-le, not-precedes}
 use Rattle.farmgrid.proofs.Integer.{by-test}
 use Rattle.farmgrid.proofs.Value.{Minus, At, minus-over}
 
@@ -103,9 +104,6 @@ total : {x y : Float} {p q p' q' c : ℕ} → 0 < c → At x p q c → At y p' q
 total {x} {y} {p} {q} {p'} {q'} C g h r =
     let n : ¬ (p + q' < p' + q) = λ l. T-not (lt x y) r (lt-at C g h .1 l) in le-at C h g .1 (omega arith)
 
-weaken : {x y : Float} {p q p' q' c : ℕ} → 0 < c → At x p q c → At y p' q' c → T (lt x y) → T (le x y)
-weaken C g h r = le-at C g h .1 (omega (arith, lt-at C g h .0 r))
-
 pub at-not-nan : {x : Float} {p q c : ℕ} → At x p q c → isNan x ≡ false
 unfolding isNan
 at-not-nan {x = nan} h = absurd (h .is)
@@ -117,8 +115,8 @@ at-not-nan {x = fin s m e} h = refl
 module _ (P : Float → Type 0) {x y : Float} {p q p' q' c : ℕ} (C : 0 < c) (g : At x p q c) (h : At y p' q' c) where
   pub min-at : (T (le y x) → P y) → (T (le x y) → P x) → P (minOf x y)
   unfolding minOf
-  min-at i j = rw (at-not-nan g) (by-test (λ u. P (cond u y x)) (lt y x) (λ t. i (weaken C h g t)) (λ t. j (total C h g t)))
+  min-at i j = rw (at-not-nan g) (by-test (λ u. P (cond u y x)) (precedes y x) (λ t. i (precedes-le y x t)) (λ t. j (total C h g (not-precedes y x t))))
 
   pub max-at : (T (le x y) → P y) → (T (le y x) → P x) → P (maxOf x y)
   unfolding maxOf
-  max-at i j = rw (at-not-nan g) (by-test (λ u. P (cond u y x)) (lt x y) (λ t. i (weaken C g h t)) (λ t. j (total C g h t)))
+  max-at i j = rw (at-not-nan g) (by-test (λ u. P (cond u y x)) (precedes x y) (λ t. i (precedes-le x y t)) (λ t. j (total C g h (not-precedes x y t))))

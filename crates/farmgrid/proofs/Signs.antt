@@ -65,5 +65,8 @@ dot-flip true p q = of-eq
 pub plus-zero : (a b : ℤ) → a +ℤ pos 0 *ℤ b ≡ a
 plus-zero a b = of-eq (self a ⊞ of-pos 0 ⊠ self b) (self a) (omega arith)
 
+pub zero-plus : (a : ℤ) → pos 0 +ℤ a ≡ a
+zero-plus a = of-eq (of-pos 0 ⊞ self a) (self a) (omega arith)
+
 pub plus-one : (a b : ℤ) → a +ℤ pos 1 *ℤ b ≡ a +ℤ b
 plus-one a b = of-eq (self a ⊞ of-pos 1 ⊠ self b) (self a ⊞ self b) (omega arith)

@@ -19,13 +19,13 @@ use Rattle.matrix.specs.declared.vec.Vec4d.{Vec4d}
 use Rattle.matrix.specs.declared.matrix.Mat4d.{Mat4d}
 use Rattle.matrix.specs.Constants.{positiveZero, one}
 use Rattle.matrix.specs.Vec.{axis, axis4, dot, dot4, vec3, vec4}
-use Rattle.matrix.specs.Matrix.{entry, matrix, product, transpose, determinant3}
+use Rattle.matrix.specs.Matrix.{entry, matrix, rowTimes, product, transpose, determinant3}
 use Rattle.matrix.specs.Transform as Transform
 use Rattle.matrix.specs.Transform.{column, moved, direction, affine, divisor, homogeneous}
 use Rattle.farmgrid.specs.Placement.{WholeVec, WholeVec4, WholeMatrix, Within, PlacementWithin}
 use Rattle.farmgrid.specs.Placement.{dotℤ, dot4ℤ, columnℤ, turnedℤ, movedℤ, productℤ}
 use Rattle.farmgrid.proofs.QuarterTurns.{transposeℤ, determinantℤ, three, four, turn-size, upper-size, moved-last}
-use Rattle.farmgrid.proofs.Signs.{flip, times-unit}
+use Rattle.farmgrid.proofs.Signs.{flip, times-unit, zero-plus}
 
 -- ---- the numbers 0 and 1
 
@@ -89,6 +89,19 @@ module _ {a b : ℕ} (l : a * b * 4 ≤ 2 ^ 53) (x y : ℕ → Float) (p q : ℕ
   pub dot4-fit : Fit (dot4 x y) (dot4ℤ p q) (a * b + a * b + a * b + a * b)
   dot4-fit = fit-sum (dot-fit (omega arith) x y p q (λ i h. X i (omega arith)) (λ i h. Y i (omega arith))) (term 3 (lit< tt)) (omega arith)
 
+  -- the same, added to 0
+  pub row-fit : Fit (positiveZero ⊕ x 0 ⊗ y 0 ⊕ x 1 ⊗ y 1 ⊕ x 2 ⊗ y 2 ⊕ x 3 ⊗ y 3) (dot4ℤ p q) (a * b + a * b + a * b + a * b)
+  row-fit = fit-sum (fit-sum (fit-sum first (term 1 (lit< tt)) (omega arith)) (term 2 (lit< tt)) (omega arith)) (term 3 (lit< tt)) (omega arith)
+    where
+      none : Fit positiveZero (pos 0) 0
+      none = record { whole = zero-whole; size = lit≤ tt }
+
+      first : Fit (positiveZero ⊕ x 0 ⊗ y 0) (p 0 *ℤ q 0) (a * b)
+      first = record {
+        whole = subst (Whole (positiveZero ⊕ x 0 ⊗ y 0)) (zero-plus (p 0 *ℤ q 0)) (fit-sum none (term 0 (lit< tt)) (omega arith) .whole);
+        size = term 0 (lit< tt) .size;
+      }
+
 -- ---- vectors and matrices by their numbers
 
 pub whole-vec3 : (g : ℕ → Float) {p : ℕ → ℤ} → ((i : ℕ) → i < 3 → Whole (g i) (p i)) → WholeVec (vec3 g) p
@@ -149,8 +162,8 @@ module _ {m n : Mat4d} {f g : ℕ → ℕ → ℤ} (M : WholeMatrix m f) (F : Pl
     (G : PlacementWithin wide g) where
   pub product-whole : WholeMatrix (product m n) (productℤ f g)
   unfolding product
-  product-whole = whole-matrix (λ i j. dot4 (entry m i) (λ k. entry n k j)) (λ i j h k.
-      dot4-fit (lit≤ tt) (entry m i) (λ k. entry n k j) (f i) (columnℤ g j) (λ k l. entry-fit M F i k h l) (λ k' l. entry-fit N G k' j l k) .whole)
+  product-whole = whole-matrix (λ i j. rowTimes (entry m i) n j) (λ i j h k.
+      row-fit (lit≤ tt) (entry m i) (λ k. entry n k j) (f i) (columnℤ g j) (λ k l. entry-fit M F i k h l) (λ k' l. entry-fit N G k' j l k) .whole)
 
 pub transpose-whole : {m : Mat4d} {f : ℕ → ℕ → ℤ} → WholeMatrix m f → WholeMatrix (transpose m) (transposeℤ f)
 transpose-whole {m} M = whole-matrix (λ i j. entry m j i) (λ i j h k. M .at j i k h)

@@ -12,9 +12,8 @@ use Rattle.matrix.specs.declared.matrix.Mat4d.{Mat4d}
 use Rattle.matrix.specs.declared.range.Range3d.{Range3d}
 use Rattle.matrix.specs.declared.inverse.Inverted.{Inverted}
 use Rattle.matrix.specs.declared.inverse.Inverted.the-variants.{Matrix, Singular}
-use Rattle.matrix.specs.Vec.{vec4, dot4}
-use Rattle.matrix.specs.Matrix.{matrixOf, entry, product}
-use Rattle.matrix.specs.Transform.{homogeneous}
+use Rattle.matrix.specs.Vec.{axis4, vec4, dot4}
+use Rattle.matrix.specs.Matrix.{matrixOf, entry, rowTimes, product}
 use Rattle.matrix.specs.Constants.{one}
 use Rattle.matrix.specs.Inverse.{cofactors, adjugate, determinant, scaled, over, inverseAbove, hasInverse}
 use Rattle.matrix.specs.Range.{range, isEmpty, reached, transformed}
@@ -26,17 +25,21 @@ use Rattle.matrix.proofs.Same.{rows, same-matrix}
 abbrev rowOf : List Float → ℕ → Vec4d
 rowOf a n = vec4 (λ i. at a (n + i))
 
-row : (r v w : Vec4d) (m n : Mat4d) → r ≡ homogeneous m v → v ≡ w → m ≡ n → r ≡ homogeneous n w
-row r v w m n p q e = p ∙ ap₂ homogeneous e q
+-- that row times a matrix
+abbrev through : Mat4d → Vec4d → Vec4d
+through m v = vec4 (rowTimes (axis4 v) m)
 
-pub product-of-rows : (m n : Mat4d) (r0 r1 r2 r3 : Vec4d) → r0 ≡ homogeneous n (m .r0) → r1 ≡ homogeneous n (m .r1) → r2 ≡ homogeneous n (m .r2) → r3 ≡ homogeneous n (m .r3)
+row : (r v w : Vec4d) (m n : Mat4d) → r ≡ through m v → v ≡ w → m ≡ n → r ≡ through n w
+row r v w m n p q e = p ∙ ap₂ through e q
+
+pub product-of-rows : (m n : Mat4d) (r0 r1 r2 r3 : Vec4d) → r0 ≡ through n (m .r0) → r1 ≡ through n (m .r1) → r2 ≡ through n (m .r2) → r3 ≡ through n (m .r3)
     → rows r0 r1 r2 r3 ≡ product m n
 unfolding product
 product-of-rows m n r0 r1 r2 r3 p0 p1 p2 p3 = same-matrix p0 p1 p2 p3
 
 module _ (a b : List Float) (m : Mat4d) (e : m ≡ matrixOf b) (v0 v1 v2 v3 r0 r1 r2 r3 : Vec4d) where
   pub product-rows : v0 ≡ rowOf a 0 → v1 ≡ rowOf a 4 → v2 ≡ rowOf a 8 → v3 ≡ rowOf a 12
-      → r0 ≡ homogeneous m v0 → r1 ≡ homogeneous m v1 → r2 ≡ homogeneous m v2 → r3 ≡ homogeneous m v3
+      → r0 ≡ through m v0 → r1 ≡ through m v1 → r2 ≡ through m v2 → r3 ≡ through m v3
       → rows r0 r1 r2 r3 ≡ product (matrixOf a) (matrixOf b)
   unfolding product
   product-rows p0 p1 p2 p3 q0 q1 q2 q3 =

@@ -3,5 +3,7 @@ pub mod Literals
 pub mod Same
 pub mod Composed
 pub mod Emptiness
+pub mod Settled
+pub mod Signs
 pub mod Length
 pub mod Worked

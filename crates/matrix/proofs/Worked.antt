@@ -5,7 +5,7 @@ use Prim.Native.Nat.{_^_}
 use lib.Count.{trailingZeros}
 use lib.Dec.{eqb}
 use lib.Ieee.{Float, nan, inf, add, sub, mul, div, neg, lt, eq, isNan, round, sum, units, odd, size, span, climb}
-use Rattle.number.specs.Arithmetic.{_⊘_, absOf, maxOf}
+use Rattle.number.specs.Arithmetic.{_⊘_, absOf, minOf, maxOf}
 use Rattle.matrix.specs.declared.vec.Vec3d.{Vec3d}
 use Rattle.matrix.specs.declared.matrix.Mat4d.{Mat4d}
 use Rattle.matrix.specs.declared.range.Range3d.{Range3d}
@@ -17,6 +17,7 @@ use Rattle.matrix.specs.Matrix.{matrix}
 use Rattle.matrix.specs.Transform.{divisor}
 use Rattle.matrix.specs.Inverse.{adjugate, determinant, inverseAbove, inverse}
 use Rattle.matrix.specs.Range.{range, isEmpty, union}
+use Rattle.matrix.specs.Signs.{NanGrouping}
 use Rattle.matrix.proofs.Composed.{no-number}
 
 -- ---- normalising
@@ -81,3 +82,8 @@ nan-range = refl
 two-empty : (a b : Range3d) → isEmpty a ≡ true → isEmpty b ≡ true → union a b ≡ b
 unfolding union
 two-empty a b p q = rw p
+
+-- with a NaN a union can come out empty, and grouping matters
+pub nan-grouping : NanGrouping
+unfolding union minOf maxOf isNan lt eq neg round units odd size span climb trailingZeros
+nan-grouping = record { empty = refl; first-two = refl; last-two = refl }

@@ -6,3 +6,5 @@ pub mod Transform
 pub mod Inverse
 pub mod Range
 pub mod Calls
+pub mod Steps
+pub mod Signs

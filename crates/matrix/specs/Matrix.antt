@@ -9,7 +9,7 @@ use Rattle.number.specs.Slice.{at}
 use Rattle.matrix.specs.declared.vec.Vec3d.{Vec3d}
 use Rattle.matrix.specs.declared.matrix.Mat4d.{Mat4d}
 use Rattle.matrix.specs.Constants.{positiveZero, one}
-use Rattle.matrix.specs.Vec.{coordinates4, vec3, vec4, dot4}
+use Rattle.matrix.specs.Vec.{coordinates4, vec3, vec4}
 
 -- ---- its numbers, "matrices row by row"
 
@@ -37,9 +37,13 @@ translation m = vec3 (entry m 3)
 
 -- ---- product and transpose
 
+-- a row times a matrix: at column j its numbers times those of the column, added to 0 one after another
+abbrev pub rowTimes : (ℕ → Float) → Mat4d → ℕ → Float
+rowTimes row m j = positiveZero ⊕ row 0 ⊗ entry m 0 j ⊕ row 1 ⊗ entry m 1 j ⊕ row 2 ⊗ entry m 2 j ⊕ row 3 ⊗ entry m 3 j
+
 -- at row i and column j the row i of a times the column j of b
 unfoldable pub product : Mat4d → Mat4d → Mat4d
-product a b = matrix (λ i j. dot4 (entry a i) (λ k. entry b k j))
+product a b = matrix (λ i j. rowTimes (entry a i) b j)
 
 abbrev pub transpose : Mat4d → Mat4d
 transpose m = matrix (λ i j. entry m j i)

@@ -38,10 +38,14 @@ emptyAlong r i = lt (axis (r .max) i) (axis (r .min) i)
 unfoldable pub isEmpty : Range3d → Bool
 isEmpty r = emptyAlong r 0 || emptyAlong r 1 || emptyAlong r 2
 
+-- of two that are not empty
+abbrev pub joined : Range3d → Range3d → Range3d
+joined a b = range (least (a .min) (b .min)) (greatest (a .max) (b .max))
+
 -- "The union of two empty ranges is the second."
 unfoldable pub union : Range3d → Range3d → Range3d
 unfolding isEmpty
-union a b = cond (isEmpty a) b (cond (isEmpty b) a (range (least (a .min) (b .min)) (greatest (a .max) (b .max))))
+union a b = cond (isEmpty a) b (cond (isEmpty b) a (joined a b))
 
 abbrev pub intersection : Range3d → Range3d → Range3d
 intersection a b = range (greatest (a .min) (b .min)) (least (a .max) (b .max))

@@ -2,8 +2,9 @@
 // the last row is the translation. The number at row i and column j is the number i * 4 + j of the record.
 ghost use mathlib.Core.Path.{_≡_};
 ghost use Prim.Native.Nat.{_+_, _≤_};
-ghost use Rattle.matrix.specs.Matrix.{matrixOf, entries, identity, product, transpose, determinant3, rightHanded, translation};
+ghost use Rattle.matrix.specs.Matrix.{matrixOf, entries, identity, rowTimes, product, transpose, determinant3, rightHanded, translation};
 ghost use Rattle.matrix.specs.Transform.{direction, affine, divisor, transformed, homogeneous};
+ghost use Rattle.matrix.specs.Vec.{axis4, vec4};
 ghost use Rattle.number.specs.Slice.{at, stored};
 use crate::vec::Vec3d;
 use crate::vec::Vec4d;
@@ -61,15 +62,27 @@ impl Mat4d {
         Mat4d::IDENTITY
     }
 
+    // A row of a product, whose left factor has this row: each sum starts at 0, so that none is -0.
+    pub(crate) fn row_product(self, row: Vec4d) -> Vec4d
+        ensures { λ r. ⌜ r ≡ vec4 (rowTimes (axis4 row) self) ⌝ }
+    {
+        Vec4d {
+            x: 0.0 + row.x * self.r0.x + row.y * self.r1.x + row.z * self.r2.x + row.w * self.r3.x,
+            y: 0.0 + row.x * self.r0.y + row.y * self.r1.y + row.z * self.r2.y + row.w * self.r3.y,
+            z: 0.0 + row.x * self.r0.z + row.y * self.r1.z + row.z * self.r2.z + row.w * self.r3.z,
+            w: 0.0 + row.x * self.r0.w + row.y * self.r1.w + row.z * self.r2.w + row.w * self.r3.w,
+        }
+    }
+
     // Each row of the left factor goes through the right one.
     pub fn product(self, other: Mat4d) -> Mat4d
         ensures { λ r. ⌜ r ≡ product self other ⌝ }
     {
         Mat4d {
-            r0: other.transform_homogeneous(self.r0),
-            r1: other.transform_homogeneous(self.r1),
-            r2: other.transform_homogeneous(self.r2),
-            r3: other.transform_homogeneous(self.r3),
+            r0: other.row_product(self.r0),
+            r1: other.row_product(self.r1),
+            r2: other.row_product(self.r2),
+            r3: other.row_product(self.r3),
         }
     }
 

@@ -28,10 +28,10 @@ pub fn product(a: &[f64], b: &[f64], out: &mut [f64]) -> Written
     }
     let right = Mat4d::load(b);
     let product = Mat4d {
-        r0: right.transform_homogeneous(Vec4d::load_at(a, 0)),
-        r1: right.transform_homogeneous(Vec4d::load_at(a, 4)),
-        r2: right.transform_homogeneous(Vec4d::load_at(a, 8)),
-        r3: right.transform_homogeneous(Vec4d::load_at(a, 12)),
+        r0: right.row_product(Vec4d::load_at(a, 0)),
+        r1: right.row_product(Vec4d::load_at(a, 4)),
+        r2: right.row_product(Vec4d::load_at(a, 8)),
+        r3: right.row_product(Vec4d::load_at(a, 12)),
     };
     product.store(out);
     Written::Done

@@ -2,9 +2,10 @@
 ghost use mathlib.Core.Path.{_≡_};
 ghost use mathlib.Core.Bool.{cond};
 ghost use Rattle.matrix.specs.Vec.{axis4, vec3};
-ghost use Rattle.matrix.specs.Range.{range, rangeOf, bounds, empty, isEmpty, union, intersection, size, midpoint, along, distanceSquared, reach, reached, transformed, corner, corners};
+ghost use Rattle.matrix.specs.Range.{range, rangeOf, bounds, empty, isEmpty, joined, union, intersection, size, midpoint, along, distanceSquared, reach, reached, transformed, corner, corners};
 ghost use Rattle.matrix.specs.Matrix.{product};
-ghost use Rattle.number.specs.Arithmetic.{minOf, maxOf};
+ghost use Rattle.matrix.specs.Steps.{settled};
+ghost use Rattle.number.specs.Arithmetic.{lowerOf, upperOf, minOf, maxOf};
 ghost use Rattle.number.specs.Slice.{stored};
 use crate::matrix::Mat4d;
 use crate::vec::Vec3d;
@@ -81,6 +82,26 @@ impl Range3d {
         self.min.z > self.max.z
     }
 
+    // None of its numbers is a zero or a NaN: where one is, so is their product.
+    pub(crate) fn is_settled(self) -> bool
+        ensures { λ r. ⌜ r ≡ settled self ⌝ }
+    {
+        order::is_nonzero(
+            self.min.x * self.max.x * (self.min.y * self.max.y) * (self.min.z * self.max.z),
+        )
+    }
+
+    // The union of two ranges that are not empty, with a NaN passed over and the sign of a zero.
+    fn joined(self, other: Range3d) -> Range3d
+        ensures { λ r. ⌜ r ≡ joined self other ⌝ }
+    {
+        Range3d {
+            min: self.min.min(other.min),
+            max: self.max.max(other.max),
+        }
+    }
+
+    // A comparison settles each number that is neither a zero nor a NaN.
     pub fn union(self, other: Range3d) -> Range3d
         ensures { λ r. ⌜ r ≡ union self other ⌝ }
     {
@@ -90,19 +111,39 @@ impl Range3d {
         if other.is_empty() {
             return self;
         }
+        let found = Range3d {
+            min: self.min.lower(other.min),
+            max: self.max.upper(other.max),
+        };
+        if found.is_settled() {
+            return found;
+        }
+        self.joined(other)
+    }
+
+    // Its corners in each other's place: what both of two ranges hold is, so turned, the union of the two turned.
+    fn turned(self) -> Range3d
+        ensures { λ r. ⌜ r ≡ range (self .max) (self .min) ⌝ }
+    {
+        let least = self.max;
+        let greatest = self.min;
         Range3d {
-            min: self.min.min(other.min),
-            max: self.max.max(other.max),
+            min: least,
+            max: greatest,
         }
     }
 
     pub fn intersection(self, other: Range3d) -> Range3d
         ensures { λ r. ⌜ r ≡ intersection self other ⌝ }
     {
-        Range3d {
-            min: self.min.max(other.min),
-            max: self.max.min(other.max),
+        let found = Range3d {
+            min: self.min.upper(other.min),
+            max: self.max.lower(other.max),
+        };
+        if found.is_settled() {
+            return found;
         }
+        self.turned().joined(other.turned()).turned()
     }
 
     pub fn size(self) -> Vec3d
@@ -125,8 +166,9 @@ impl Range3d {
             + along(p.z, self.min.z, self.max.z)
     }
 
-    // The least that the range comes to along an axis, whose column of a matrix is given, the translation its last number.
-    fn lowest(self, column: Vec4d) -> f64
+    // The least that the range comes to along an axis, whose column of a matrix is given, the translation its last number: with a NaN passed over and the
+    // sign of a zero.
+    fn lowest_signed(self, column: Vec4d) -> f64
         ensures { λ r. ⌜ r ≡ reach minOf self (vec3 (axis4 column)) (axis4 column 3) ⌝ }
     {
         column.w
@@ -135,7 +177,7 @@ impl Range3d {
             + order::min(self.min.z * column.z, self.max.z * column.z)
     }
 
-    fn highest(self, column: Vec4d) -> f64
+    fn highest_signed(self, column: Vec4d) -> f64
         ensures { λ r. ⌜ r ≡ reach maxOf self (vec3 (axis4 column)) (axis4 column 3) ⌝ }
     {
         column.w
@@ -144,9 +186,29 @@ impl Range3d {
             + order::max(self.min.z * column.z, self.max.z * column.z)
     }
 
-    // The corners of the range that holds this one once the matrix is applied to it.
+    // The same by one comparison for each choice.
+    fn lowest(self, column: Vec4d) -> f64
+        ensures { λ r. ⌜ r ≡ reach lowerOf self (vec3 (axis4 column)) (axis4 column 3) ⌝ }
+    {
+        column.w
+            + order::lower(self.min.x * column.x, self.max.x * column.x)
+            + order::lower(self.min.y * column.y, self.max.y * column.y)
+            + order::lower(self.min.z * column.z, self.max.z * column.z)
+    }
+
+    fn highest(self, column: Vec4d) -> f64
+        ensures { λ r. ⌜ r ≡ reach upperOf self (vec3 (axis4 column)) (axis4 column 3) ⌝ }
+    {
+        column.w
+            + order::upper(self.min.x * column.x, self.max.x * column.x)
+            + order::upper(self.min.y * column.y, self.max.y * column.y)
+            + order::upper(self.min.z * column.z, self.max.z * column.z)
+    }
+
+    // The corners of the range that holds this one once the matrix is applied to it, by one comparison for each choice: settled where no number is a zero
+    // or a NaN.
     pub(crate) fn transformed_min(self, matrix: Mat4d) -> Vec3d
-        ensures { λ r. ⌜ r ≡ reached minOf self matrix ⌝ }
+        ensures { λ r. ⌜ r ≡ reached lowerOf self matrix ⌝ }
     {
         let columns = matrix.transpose();
         Vec3d {
@@ -157,13 +219,32 @@ impl Range3d {
     }
 
     pub(crate) fn transformed_max(self, matrix: Mat4d) -> Vec3d
-        ensures { λ r. ⌜ r ≡ reached maxOf self matrix ⌝ }
+        ensures { λ r. ⌜ r ≡ reached upperOf self matrix ⌝ }
     {
         let columns = matrix.transpose();
         Vec3d {
             x: self.highest(columns.r0),
             y: self.highest(columns.r1),
             z: self.highest(columns.r2),
+        }
+    }
+
+    // The range with those corners, with a NaN passed over and the sign of a zero.
+    pub(crate) fn transformed_signed(self, matrix: Mat4d) -> Range3d
+        ensures { λ r. ⌜ r ≡ range (reached minOf self matrix) (reached maxOf self matrix) ⌝ }
+    {
+        let columns = matrix.transpose();
+        Range3d {
+            min: Vec3d {
+                x: self.lowest_signed(columns.r0),
+                y: self.lowest_signed(columns.r1),
+                z: self.lowest_signed(columns.r2),
+            },
+            max: Vec3d {
+                x: self.highest_signed(columns.r0),
+                y: self.highest_signed(columns.r1),
+                z: self.highest_signed(columns.r2),
+            },
         }
     }
 
@@ -174,10 +255,14 @@ impl Range3d {
         if self.is_empty() {
             return self;
         }
-        Range3d {
+        let found = Range3d {
             min: self.transformed_min(matrix),
             max: self.transformed_max(matrix),
+        };
+        if found.is_settled() {
+            return found;
         }
+        self.transformed_signed(matrix)
     }
 
     // The same of a product of two matrices, of which only what the range needs is computed.
@@ -188,15 +273,19 @@ impl Range3d {
             return self;
         }
         let matrix = Mat4d {
-            r0: right.transform_homogeneous(left.r0),
-            r1: right.transform_homogeneous(left.r1),
-            r2: right.transform_homogeneous(left.r2),
-            r3: right.transform_homogeneous(left.r3),
+            r0: right.row_product(left.r0),
+            r1: right.row_product(left.r1),
+            r2: right.row_product(left.r2),
+            r3: right.row_product(left.r3),
         };
-        Range3d {
+        let found = Range3d {
             min: self.transformed_min(matrix),
             max: self.transformed_max(matrix),
+        };
+        if found.is_settled() {
+            return found;
         }
+        self.transformed_signed(matrix)
     }
 
     // The corner i, of eight: the maximum along each axis whose bit is set in i.

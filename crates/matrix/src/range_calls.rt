@@ -111,11 +111,15 @@ pub fn transformed(range: &[f64], m: &[f64], out: &mut [f64]) -> Written
         given.store(out);
         return Written::Done;
     }
-    let moved = Range3d {
+    let found = Range3d {
         min: given.transformed_min(matrix),
         max: given.transformed_max(matrix),
     };
-    moved.store(out);
+    if found.is_settled() {
+        found.store(out);
+        return Written::Done;
+    }
+    given.transformed_signed(matrix).store(out);
     Written::Done
 }
 

@@ -1,6 +1,7 @@
 // Row vectors of three numbers, and of four where a point is homogeneous.
 ghost use mathlib.Core.Path.{_≡_};
-ghost use Rattle.matrix.specs.Vec.{sum, difference, multiple, multiple4, dot, cross, lengthOf, unit, normalized, least, greatest, vec3, vec4, vec3Of, vec4Of, coordinates, coordinates4};
+ghost use Rattle.matrix.specs.Vec.{sum, difference, multiple, multiple4, dot, cross, lengthOf, unit, normalized, least, greatest, vec3, vec4, vec3Of, vec4Of, coordinates, coordinates4, eachAxis};
+ghost use Rattle.number.specs.Arithmetic.{lowerOf, upperOf};
 ghost use Prim.Native.Nat.{_+_};
 ghost use Rattle.number.specs.Slice.{at, stored};
 use number::order;
@@ -90,6 +91,27 @@ impl Vec3d {
             x: order::max(self.x, other.x),
             y: order::max(self.y, other.y),
             z: order::max(self.z, other.z),
+        }
+    }
+
+    // The same by one comparison for each axis.
+    pub(crate) fn lower(self, other: Vec3d) -> Vec3d
+        ensures { λ r. ⌜ r ≡ eachAxis lowerOf self other ⌝ }
+    {
+        Vec3d {
+            x: order::lower(self.x, other.x),
+            y: order::lower(self.y, other.y),
+            z: order::lower(self.z, other.z),
+        }
+    }
+
+    pub(crate) fn upper(self, other: Vec3d) -> Vec3d
+        ensures { λ r. ⌜ r ≡ eachAxis upperOf self other ⌝ }
+    {
+        Vec3d {
+            x: order::upper(self.x, other.x),
+            y: order::upper(self.y, other.y),
+            z: order::upper(self.z, other.z),
         }
     }
 

@@ -19,7 +19,7 @@ use Rattle.number.proofs.NearestRoot.{fits-facts, in-units}
 use Rattle.number.proofs.Pack.{value-bits}
 
 -- Two values of a format that have one sign and one size have the same bits, so they are the same.
-value-unique : (f : Format) (x y : Float) (s : Bool) (n : ℕ) → T (fits f x) → T (fits f y)
+pub value-unique : (f : Format) (x y : Float) (s : Bool) (n : ℕ) → T (fits f x) → T (fits f y)
     → HasValue x s n (2 ^ low f) → HasValue y s n (2 ^ low f) → x ≡ y
 value-unique f x y s n p q v w =
     sym (ofBits-toBits f x p) ∙ ap (ofBits f) (value-bits f x s n v ∙ sym (value-bits f y s n w)) ∙ ofBits-toBits f y q
@@ -34,7 +34,7 @@ kept f s m e j t small fine v =
     ∙ value-unique f (round f s n l) (fin s m e) s n (round-fits f s n l) t (round-exact f s n l m j (pow-pos (low f)) small fine refl) (refl, v)
 
 -- A bound on m * u over d is one on m * j over l, where u over d is j over l.
-bound : (m u d j l o : ℕ) → 0 < l → m * u * l ≡ m * j * d → m * u < o * d → m * j < l * o
+pub bound : (m u d j l o : ℕ) → 0 < l → m * u * l ≡ m * j * d → m * u < o * d → m * j < l * o
 bound m u d j l o L v h = lt-of-mul-lt-mul-right d (rw (← v, mul-comm l o, mul-right-comm o l d) (mul-lt-mul-of-pos-right h L))
 
 -- A value of a format is rounded to itself.

@@ -3,6 +3,9 @@ pub mod Nan
 pub mod Tests
 pub mod Magnitude
 pub mod Extremes
+pub mod Places
+pub mod EitherOrder
+pub mod Zeros
 pub mod Pack
 pub mod Rounding
 pub mod Fields

@@ -24,3 +24,9 @@ zero-by-zero = refl
 pub zero-by-zero-32 : div binary32 (ofBits binary32 0) (ofBits binary32 0) ≡ nan
 unfolding div ofBits
 zero-by-zero-32 = refl
+
+pub nan-is : (x : Float) → isNan x ≡ true → x ≡ nan
+unfolding isNan
+nan-is nan p = refl
+nan-is (inf s) p = absurd (subst T (sym p) tt)
+nan-is (fin s m e) p = absurd (subst T (sym p) tt)

@@ -1,7 +1,8 @@
 -- binary64 arithmetic as the contracts write it: ⊕, ⊖, ⊗ and ⊘ are the four operations of IEEE 754, clause 5.4.1, each rounded once to nearest, ties to even.
 -- Definitions only.
-use mathlib.Core.Bool.{false, cond}
-use lib.Ieee.{Float, nan, inf, fin, binary64, add, sub, mul, div, lt, isNan}
+use mathlib.Core.Bool.{Bool, false, not, cond, _&&_, _||_}
+use lib.IntN.{pos}
+use lib.Ieee.{Float, nan, inf, fin, binary64, add, sub, mul, div, lt, eq, isNan}
 
 infixl 65 _⊕_ _⊖_
 infixl 70 _⊗_ _⊘_
@@ -23,9 +24,39 @@ absOf nan = nan
 absOf (inf s) = inf false
 absOf (fin s m e) = fin false m e
 
--- The smaller and the larger of two numbers. One NaN is passed over, two give NaN; of equal operands, zeros of either sign among them, the first.
+-- ---- the smaller and the larger of two numbers: minimumNumber and maximumNumber of IEEE 754-2019, clause 9.6
+
+-- has the sign of the negative numbers, as -0 does; a NaN has none
+abbrev pub negative : Float → Bool
+negative nan = false
+negative (inf s) = s
+negative (fin s m e) = s
+
+-- the zero of a sign: -0 where it is true
+abbrev pub zeroOf : Bool → Float
+zeroOf s = fin s 0 (pos 0)
+
+-- below zero or above it: neither a zero nor a NaN
+abbrev pub nonzero : Float → Bool
+nonzero x = lt x (zeroOf false) || lt (zeroOf false) x
+
+-- the smaller and the larger by one comparison, which tells neither two zeros apart nor a NaN
+abbrev pub lowerOf : Float → Float → Float
+lowerOf x y = cond (lt y x) y x
+
+abbrev pub upperOf : Float → Float → Float
+upperOf x y = cond (lt x y) y x
+
+-- x < y, or x is -0 and y is +0: "For this operation, -0 compares less than +0"
+unfoldable pub precedes : Float → Float → Bool
+precedes x y = lt x y || (negative x && not (negative y) && eq x y)
+
+-- "Minimum of two zeros must return the negative one if either is negative; maximum must return the positive one if either is positive." One NaN is passed
+-- over, two give NaN.
 unfoldable pub minOf : Float → Float → Float
-minOf x y = cond (isNan x) y (cond (lt y x) y x)
+unfolding precedes
+minOf x y = cond (isNan x) y (cond (precedes y x) y x)
 
 unfoldable pub maxOf : Float → Float → Float
-maxOf x y = cond (isNan x) y (cond (lt x y) y x)
+unfolding precedes
+maxOf x y = cond (isNan x) y (cond (precedes x y) y x)

@@ -1,5 +1,6 @@
 -- What the contracts of this crate cite, and what a reader must believe.
 pub mod Arithmetic
+pub mod Extremes
 pub mod Root
 pub mod Answer
 pub mod Slice

@@ -3,7 +3,7 @@ ghost use mathlib.Core.Path.{_≡_};
 ghost use mathlib.Core.Bool.{cond};
 ghost use lib.Ieee.{isNan, lt};
 ghost use lib.Ieee.Scale.{finite};
-ghost use Rattle.number.specs.Arithmetic.{absOf, minOf, maxOf};
+ghost use Rattle.number.specs.Arithmetic.{absOf, nonzero, lowerOf, upperOf, minOf, maxOf};
 
 // |x|, by its bits.
 pub fn abs(x: f64) -> f64
@@ -29,7 +29,33 @@ pub fn is_finite(x: f64) -> bool
     abs(x) < 1.0 / 0.0
 }
 
-// x, or y where x is a NaN: shared by the two below, it costs both together one test.
+// Below zero or above it: neither a zero nor a NaN.
+pub fn is_nonzero(x: f64) -> bool
+    ensures { λ r. ⌜ r ≡ nonzero x ⌝ }
+{
+    (x < 0.0) | (0.0 < x)
+}
+
+// The smaller and the larger by one comparison: right but for two zeros, and where the first is a NaN.
+pub fn lower(x: f64, y: f64) -> f64
+    ensures { λ r. ⌜ r ≡ lowerOf x y ⌝ }
+{
+    if y < x {
+        return y;
+    }
+    x
+}
+
+pub fn upper(x: f64, y: f64) -> f64
+    ensures { λ r. ⌜ r ≡ upperOf x y ⌝ }
+{
+    if x < y {
+        return y;
+    }
+    x
+}
+
+// x, or y where x is a NaN.
 fn number_or(x: f64, y: f64) -> f64
     ensures { λ r. ⌜ r ≡ cond (isNan x) y x ⌝ }
 {
@@ -39,9 +65,13 @@ fn number_or(x: f64, y: f64) -> f64
     x
 }
 
+// Equal numbers have the same bits but for the sign of a zero, which "or" makes negative where either is.
 pub fn min(x: f64, y: f64) -> f64
     ensures { λ r. ⌜ r ≡ minOf x y ⌝ }
 {
+    if x == y {
+        return f64::from_bits(f64::to_bits(x) | f64::to_bits(y));
+    }
     let first = number_or(x, y);
     if y < first {
         return y;
@@ -49,9 +79,13 @@ pub fn min(x: f64, y: f64) -> f64
     first
 }
 
+// And "and" makes it positive where either is.
 pub fn max(x: f64, y: f64) -> f64
     ensures { λ r. ⌜ r ≡ maxOf x y ⌝ }
 {
+    if x == y {
+        return f64::from_bits(f64::to_bits(x) & f64::to_bits(y));
+    }
     let first = number_or(x, y);
     if first < y {
         return y;

@@ -34,9 +34,9 @@ pub(crate) fn slot(code: u64) -> usize
     code as usize
 }
 
-// Whether the zeros of its result must have the signs that were recorded.
+// Whether the zeros of its result must have the signs that were recorded: all but `combine`'s, whose judge chooses other zeros.
 pub(crate) fn signed(code: u64) -> bool {
-    code <= 100
+    code != 201
 }
 
 // Calls an operation with inputs of these lengths, and answers its status.

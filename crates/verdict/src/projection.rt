@@ -6,7 +6,7 @@ use matrix::matrix::Mat4d;
 use matrix::vec::Vec4d;
 use number::order::abs;
 use number::order::is_finite;
-use number::order::max;
+use number::order::upper;
 use number::slice;
 use number::slice::at;
 
@@ -129,7 +129,7 @@ fn orthographic_of(m: Mat4d) -> ProjectionParams
 fn close(given: f64, built: f64) -> bool
     ensures { λ r. ⌜ r ≡ close given built ⌝ }
 {
-    let size = max(max(1.0, abs(given)), abs(built));
+    let size = upper(upper(1.0, abs(given)), abs(built));
     let near = abs(given - built) <= TOLERANCE * size;
     is_finite(given) & is_finite(built) & near
 }

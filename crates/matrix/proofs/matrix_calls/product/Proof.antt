@@ -48,7 +48,7 @@ returns-4 c =
     (stored .store .ensures) refl
     (ap entries (product-rows (now (args .a)) (now (args .b)) _ (right .load .ensures) _ _ _ _ _ _ _ _
     (at0 .load-at .ensures) (at1 .load-at2 .ensures) (at2 .load-at3 .ensures) (at3 .load-at4 .ensures)
-    (row0 .transform-homogeneous .ensures) (row1 .transform-homogeneous2 .ensures) (row2 .transform-homogeneous3 .ensures) (row3 .transform-homogeneous4 .ensures)))
+    (row0 .row-product .ensures) (row1 .row-product2 .ensures) (row2 .row-product3 .ensures) (row3 .row-product4 .ensures)))
     refl
 
 pub product-spec : {M : Type 1} → statement M

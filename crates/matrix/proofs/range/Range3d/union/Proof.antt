@@ -1,10 +1,9 @@
--- `Range3d::union` meets its contract by its tests of emptiness. Assumes nothing.
+-- `Range3d::union` meets its contract by its tests of emptiness, and what one comparison settles by `proofs/Settled.antt`. Assumes nothing.
 use mathlib.Core.Path.{_≡_}
 use mathlib.Core.Bool.{Bool, true, false}
-use Rattle.matrix.specs.declared.vec.Vec3d.{Vec3d}
 use Rattle.matrix.specs.declared.range.Range3d.{Range3d}
-use Rattle.matrix.specs.Vec.{least, greatest}
-use Rattle.matrix.specs.Range.{range, isEmpty, union}
+use Rattle.matrix.specs.Range.{isEmpty, joined, union}
+use Rattle.matrix.proofs.Settled.{found-outward}
 use Rattle.matrix.proofs.range.Range3d.union.Statement.{statement}
 use Rattle.matrix.proofs.range.Range3d.union.Tie as tie
 
@@ -18,9 +17,9 @@ module _ (a b : Range3d) (e : Bool) (p : e ≡ isEmpty a) where
     unfolding union
     first u = rw (← p, t, ← q, u)
 
-    both : (low high : Vec3d) → f ≡ false → low ≡ least (a .min) (b .min) → high ≡ greatest (a .max) (b .max) → range low high ≡ union a b
+    both : (r : Range3d) → f ≡ false → r ≡ joined a b → r ≡ union a b
     unfolding union
-    both low high u l h = rw (← p, t, ← q, u, l, h)
+    both r u h = rw (← p, t, ← q, u) h
 
 returns : tie.Need-returns
 returns c = second _ _ _ (c .before .is-empty .ensures) (c .if1 .taken)
@@ -33,12 +32,24 @@ returns-2 c =
 
 returns-3 : tie.Need-returns-3
 returns-3 c =
-    let at-min = c .before in
+    let settled = c .before in
+    let at-max = settled .before in
+    let at-min = at-max .before in
     let at-test2 = at-min .before in
     let at-second = at-test2 .before in
     let at-test = at-second .before in
-    both _ _ _ (at-test .before .is-empty .ensures) _ (at-second .is-empty2 .ensures) (at-test .if1 .left) _ _ (at-test2 .if2 .left)
-    (at-min .min .ensures) (c .max .ensures)
+    both _ _ _ (at-test .before .is-empty .ensures) _ (at-second .is-empty2 .ensures) (at-test .if1 .left) _ (at-test2 .if2 .left)
+    (found-outward _ _ _ _ _ (settled .is-settled .ensures) (c .if3 .taken) (at-min .lower .ensures) (at-max .upper .ensures))
+
+returns-4 : tie.Need-returns-4
+returns-4 c =
+    let at-min = c .before .before .before .before in
+    let at-test2 = at-min .before in
+    let at-second = at-test2 .before in
+    let at-test = at-second .before in
+    both _ _ _ (at-test .before .is-empty .ensures) _ (at-second .is-empty2 .ensures) (at-test .if1 .left) _ (at-test2 .if2 .left) (c .joined .ensures)
 
 pub union-spec : {M : Type 1} → statement M
-union-spec = tie.close (tie.spec (λ c κs. tt) returns (λ c κs. tt) returns-2 (λ c κs. tt) (λ c κs. tt) returns-3)
+union-spec =
+    tie.close
+    (tie.spec (λ c κs. tt) returns (λ c κs. tt) returns-2 (λ c κs. tt) (λ c κs. tt) (λ c κs. tt) returns-3 (λ c κs. tt) returns-4)

@@ -1,0 +1,14 @@
+-- `number::order::upper` meets its contract by its test. Assumes nothing.
+use mathlib.Core.Path.{_≡_, sym, ap}
+use mathlib.Core.Bool.{Bool, cond}
+use Rattle.number.proofs.order.upper.Statement.{statement}
+use Rattle.number.proofs.order.upper.Tie as tie
+
+returns : tie.Need-returns
+returns c = sym (ap (λ (b : Bool). cond b (c .before .args .y) (c .before .args .x)) (c .if1 .taken))
+
+returns-2 : tie.Need-returns-2
+returns-2 c = sym (ap (λ (b : Bool). cond b (c .before .args .y) (c .before .args .x)) (c .if1 .left))
+
+pub upper-spec : {M : Type 1} → statement M
+upper-spec = tie.close (tie.spec returns returns-2)
