@@ -16,7 +16,7 @@ use Rattle.matrix.specs.Vec.{axis4, vec4, dot4}
 use Rattle.matrix.specs.Matrix.{matrixOf, entry, rowTimes, product}
 use Rattle.matrix.specs.Constants.{one}
 use Rattle.matrix.specs.Inverse.{cofactors, adjugate, determinant, scaled, over, inverseAbove, hasInverse}
-use Rattle.matrix.specs.Range.{range, isEmpty, reached, transformed}
+use Rattle.matrix.specs.Range.{range, isEmpty, joined, union, reached, transformed}
 use Rattle.matrix.proofs.Same.{rows, same-matrix}
 
 -- ---- a product
@@ -98,3 +98,19 @@ module _ (r : Range3d) (m : Mat4d) (e : Bool) (p : e ≡ isEmpty r) where
   pub moves : (q : Range3d) → e ≡ false → q ≡ range (reached minOf r m) (reached maxOf r m) → q ≡ transformed r m
   unfolding transformed
   moves q t h = rw (← p, t) h
+
+-- ---- a union
+
+module _ (a b : Range3d) (e : Bool) (p : e ≡ isEmpty a) where
+  pub yields-second : e ≡ true → b ≡ union a b
+  unfolding union
+  yields-second t = rw (← p, t)
+
+  module _ (f : Bool) (q : f ≡ isEmpty b) (t : e ≡ false) where
+    pub yields-first : f ≡ true → a ≡ union a b
+    unfolding union
+    yields-first u = rw (← p, t, ← q, u)
+
+    pub unites : (r : Range3d) → f ≡ false → r ≡ joined a b → r ≡ union a b
+    unfolding union
+    unites r u h = rw (← p, t, ← q, u) h

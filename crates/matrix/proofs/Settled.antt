@@ -63,14 +63,13 @@ settled-moved r m = all-settled (range (reached lowerOf r m) (reached upperOf r 
 
 -- ---- as the code finds them
 
-module _ (a b : Range3d) (low high : Vec3d) (t : Bool) (s : t ≡ settled (range low high)) (h : t ≡ true) where
-  pub found-outward : low ≡ eachAxis lowerOf (a .min) (b .min) → high ≡ eachAxis upperOf (a .max) (b .max) → range low high ≡ joined a b
-  found-outward p q =
-      same-range p q ∙ settled-outward (a .min) (b .min) (a .max) (b .max) (ap settled (sym (same-range p q)) ∙ sym s ∙ h)
+pub found-outward : (a b r : Range3d) (t : Bool) → r ≡ range (eachAxis lowerOf (a .min) (b .min)) (eachAxis upperOf (a .max) (b .max))
+    → t ≡ settled r → t ≡ true → r ≡ joined a b
+found-outward a b r t g s h = g ∙ settled-outward (a .min) (b .min) (a .max) (b .max) (ap settled (sym g) ∙ sym s ∙ h)
 
-  pub found-inward : low ≡ eachAxis upperOf (a .min) (b .min) → high ≡ eachAxis lowerOf (a .max) (b .max) → range low high ≡ intersection a b
-  found-inward p q =
-      same-range p q ∙ settled-inward (a .min) (b .min) (a .max) (b .max) (ap settled (sym (same-range p q)) ∙ sym s ∙ h)
+pub found-inward : (a b : Range3d) (low high : Vec3d) (t : Bool) → t ≡ settled (range low high) → t ≡ true
+    → low ≡ eachAxis upperOf (a .min) (b .min) → high ≡ eachAxis lowerOf (a .max) (b .max) → range low high ≡ intersection a b
+found-inward a b low high t s h p q = same-range p q ∙ settled-inward (a .min) (b .min) (a .max) (b .max) (ap settled (sym (same-range p q)) ∙ sym s ∙ h)
 
 pub found-moved : (r : Range3d) (m : Mat4d) (low high : Vec3d) (t : Bool) → t ≡ settled (range low high) → t ≡ true
     → low ≡ reached lowerOf r m → high ≡ reached upperOf r m → range low high ≡ range (reached minOf r m) (reached maxOf r m)

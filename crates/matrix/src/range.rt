@@ -1,7 +1,7 @@
 // Boxes along the axes, each from a least to a greatest corner.
 ghost use mathlib.Core.Path.{_≡_};
 ghost use mathlib.Core.Bool.{cond};
-ghost use Rattle.matrix.specs.Vec.{axis4, vec3};
+ghost use Rattle.matrix.specs.Vec.{axis4, vec3, eachAxis};
 ghost use Rattle.matrix.specs.Range.{range, rangeOf, bounds, empty, isEmpty, joined, union, intersection, size, midpoint, along, distanceSquared, reach, reached, transformed, corner, corners};
 ghost use Rattle.matrix.specs.Matrix.{product};
 ghost use Rattle.matrix.specs.Steps.{settled};
@@ -92,7 +92,7 @@ impl Range3d {
     }
 
     // The union of two ranges that are not empty, with a NaN passed over and the sign of a zero.
-    fn joined(self, other: Range3d) -> Range3d
+    pub(crate) fn joined(self, other: Range3d) -> Range3d
         ensures { λ r. ⌜ r ≡ joined self other ⌝ }
     {
         Range3d {
@@ -101,7 +101,6 @@ impl Range3d {
         }
     }
 
-    // A comparison settles each number that is neither a zero nor a NaN.
     pub fn union(self, other: Range3d) -> Range3d
         ensures { λ r. ⌜ r ≡ union self other ⌝ }
     {
@@ -111,14 +110,17 @@ impl Range3d {
         if other.is_empty() {
             return self;
         }
-        let found = Range3d {
+        self.joined(other)
+    }
+
+    // The union of two ranges that are not empty, by one comparison for each number: settled where none is a zero or a NaN.
+    pub(crate) fn outward(self, other: Range3d) -> Range3d
+        ensures { λ r. ⌜ r ≡ range (eachAxis lowerOf (self .min) (other .min)) (eachAxis upperOf (self .max) (other .max)) ⌝ }
+    {
+        Range3d {
             min: self.min.lower(other.min),
             max: self.max.upper(other.max),
-        };
-        if found.is_settled() {
-            return found;
         }
-        self.joined(other)
     }
 
     // Its corners in each other's place: what both of two ranges hold is, so turned, the union of the two turned.
@@ -286,6 +288,24 @@ impl Range3d {
             return found;
         }
         self.transformed_signed(matrix)
+    }
+
+    // The union of this range and another, moved by a product of two matrices.
+    pub fn union_by_product(self, other: Range3d, left: Mat4d, right: Mat4d) -> Range3d
+        ensures { λ r. ⌜ r ≡ union self (transformed other (product left right)) ⌝ }
+    {
+        let moved = other.transformed_by_product(left, right);
+        if self.is_empty() {
+            return moved;
+        }
+        if moved.is_empty() {
+            return self;
+        }
+        let found = self.outward(moved);
+        if found.is_settled() {
+            return found;
+        }
+        self.joined(moved)
     }
 
     // The corner i, of eight: the maximum along each axis whose bit is set in i.

@@ -44,7 +44,22 @@ pub fn union(a: &[f64], b: &[f64], out: &mut [f64]) -> Written
     if out.len() != 6 {
         return Written::Refused(Refusal::OutputLength);
     }
-    Range3d::load(a).union(Range3d::load(b)).store(out);
+    let first = Range3d::load(a);
+    let second = Range3d::load(b);
+    if first.is_empty() {
+        second.store(out);
+        return Written::Done;
+    }
+    if second.is_empty() {
+        first.store(out);
+        return Written::Done;
+    }
+    let found = first.outward(second);
+    if found.is_settled() {
+        found.store(out);
+        return Written::Done;
+    }
+    first.joined(second).store(out);
     Written::Done
 }
 

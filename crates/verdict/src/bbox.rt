@@ -122,9 +122,10 @@ impl BBox3d {
         ensures { λ r. ⌜ r ≡ extended self other inverse ⌝ }
     {
         let matrix = self.matrix;
-        let projected = other.range.transformed_by_product(other.matrix, inverse);
+        let range = self.range
+            .union_by_product(other.range, other.matrix, inverse);
         BBox3d {
-            range: self.range.union(projected),
+            range,
             matrix,
             flag: self.flag,
         }

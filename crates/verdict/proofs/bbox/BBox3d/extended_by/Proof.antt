@@ -9,15 +9,15 @@ use Rattle.verdict.specs.declared.bbox.BBox3d.{BBox3d}
 use Rattle.verdict.proofs.bbox.BBox3d.extended_by.Statement.{statement}
 use Rattle.verdict.proofs.bbox.BBox3d.extended_by.Tie as tie
 
-grown : (a b : BBox3d) (inverse : Mat4d) (r u : Range3d) → r ≡ transformed (b .range) (product (b .matrix) inverse) → u ≡ union (a .range) r
+grown : (a b : BBox3d) (inverse : Mat4d) (u : Range3d) → u ≡ union (a .range) (transformed (b .range) (product (b .matrix) inverse))
     → box u (a .matrix) (a .flag) ≡ extended a b inverse
 unfolding extended
-grown a b inverse r u q e = rw (e, q)
+grown a b inverse u e = rw e
 
 returns : tie.Need-returns
 returns c =
-    let a = c .before .before .before .args in
-    grown (a .self) (a .other) (a .inverse) _ _ (c .before .transformed-by-product .ensures) (c .union .ensures)
+    let a = c .before .before .args in
+    grown (a .self) (a .other) (a .inverse) _ (c .union-by-product .ensures)
 
 pub extended-by-spec : {M : Type 1} → statement M
-extended-by-spec = tie.close (tie.spec (λ c κs. tt) (λ c κs. tt) returns)
+extended-by-spec = tie.close (tie.spec (λ c κs. tt) returns)
