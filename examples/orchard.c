@@ -16,6 +16,9 @@ static const double view[48] = {
 static const double south[23] = {200, -900, 0, 1200, -100, 300, 1, 0, 0, 0, 0, 1, 0, 0, 0, 0, 1, 0, 0, 0, 0, 1, 0};
 static const double north[23] = {0, 0, 0, 800, 600, 250, 0, 1, 0, 0, -1, 0, 0, 0, 0, 0, 1, 0, 4600, 2000, 0, 1, 0};
 
+/* A packing shed beside them. */
+static const double shed[23] = {5000, 100, 0, 5200, 300, 350, 1, 0, 0, 0, 0, 1, 0, 0, 0, 0, 1, 0, 0, 0, 0, 1, 0};
+
 /* A mast camera as its maker sends it: it stands at 2000, -500, 300 and looks along -z, through a window that reaches 1 to
  * either side and 0.5 up and down at a distance of one, from 100 to 5000. */
 static const double camera_view[16] = {1, 0, 0, 0, 0, 1, 0, 0, 0, 0, 1, 0, -2000, 500, -300, 1};
@@ -65,6 +68,7 @@ int main(void)
     double tree[3] = {0}, both[23] = {0}, range[6] = {0}, projection[16] = {0}, camera[24] = {0};
     uint8_t file[800];
     size_t file_size;
+    double group[3 * 23], part[23] = {0};
     uint32_t status, yes = 0, slots[63], count = 0;
 
     status = gf_grid(survey, 3, tree, 3);
@@ -81,6 +85,24 @@ int main(void)
     if (status == 0)
         status = gf_bbox_aligned_range(both, 23, range, 6);
     print_numbers("both blocks, least and greatest", status, range, 6);
+
+    /* The whole orchard as one group; then north block and shed first, and their result with the south block. */
+    memcpy(group, south, sizeof south);
+    memcpy(group + 23, north, sizeof north);
+    memcpy(group + 46, shed, sizeof shed);
+    status = gf_bbox_combine_group(group, 69, both, 23);
+    if (status == 0)
+        status = gf_bbox_aligned_range(both, 23, range, 6);
+    print_numbers("the orchard as one group", status, range, 6);
+    status = gf_bbox_combine_group(group + 23, 46, part, 23);
+    memcpy(group + 23, part, sizeof part);
+    if (status == 0)
+        status = gf_bbox_combine_group(group, 46, both, 23);
+    if (status == 0)
+        status = gf_bbox_aligned_range(both, 23, range, 6);
+    print_numbers("the orchard by its parts", status, range, 6);
+    status = gf_bbox_combine_group(group, 0, both, 23);
+    print_numbers("a group of no blocks", status, both, 23);
 
     status = gf_projection_matrix(camera_window, 7, projection, 16);
     if (status == 0)

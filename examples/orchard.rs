@@ -6,6 +6,7 @@ extern "C" {
     fn gf_intersects_segment(v: *const f64, v_len: usize, a: *const f64, a_len: usize, b: *const f64, b_len: usize, out: *mut u32) -> u32;
     fn gf_intersects_bbox(v: *const f64, v_len: usize, b: *const f64, b_len: usize, out: *mut u32) -> u32;
     fn gf_bbox_combine(a: *const f64, a_len: usize, b: *const f64, b_len: usize, out: *mut f64, out_len: usize) -> u32;
+    fn gf_bbox_combine_group(boxes: *const f64, boxes_len: usize, out: *mut f64, out_len: usize) -> u32;
     fn gf_bbox_aligned_range(b: *const f64, b_len: usize, out: *mut f64, out_len: usize) -> u32;
     fn gf_projection_matrix(p: *const f64, p_len: usize, out: *mut f64, out_len: usize) -> u32;
     fn gf_camera_set_from_view_and_projection(v: *const f64, v_len: usize, p: *const f64, p_len: usize, focal_length: f32, out: *mut f64, out_len: usize) -> u32;
@@ -35,6 +36,10 @@ fn box_in_view(v: &[f64], b: &[f64]) -> Result<u32, u32> {
 
 fn combine(a: &[f64], b: &[f64]) -> Result<[f64; 23], u32> {
     answer([0.0; 23], |out| unsafe { gf_bbox_combine(a.as_ptr(), a.len(), b.as_ptr(), b.len(), out.as_mut_ptr(), out.len()) })
+}
+
+fn combine_group(boxes: &[f64]) -> Result<[f64; 23], u32> {
+    answer([0.0; 23], |out| unsafe { gf_bbox_combine_group(boxes.as_ptr(), boxes.len(), out.as_mut_ptr(), out.len()) })
 }
 
 fn aligned_range(b: &[f64]) -> Result<[f64; 6], u32> {
@@ -103,6 +108,14 @@ fn main() -> Result<(), u32> {
     print_verdict("south block in view", box_in_view(&view, &south));
     print_verdict("north block, which touches, in view", box_in_view(&view, &north));
     print_numbers("both blocks, least and greatest", combine(&south, &north).and_then(|both| aligned_range(&both)));
+
+    // The whole orchard, with a packing shed, as one group; then north block and shed first, and their result with the south block.
+    let shed = [&[5000.0, 100.0, 0.0, 5200.0, 300.0, 350.0][..], &upright[..], &[0.0]].concat();
+    let range_of = |boxes: &[&[f64]]| combine_group(&boxes.concat()).and_then(|group| aligned_range(&group));
+    print_numbers("the orchard as one group", range_of(&[&south, &north, &shed]));
+    let part = combine_group(&[&north[..], &shed[..]].concat())?;
+    print_numbers("the orchard by its parts", range_of(&[&south, &part]));
+    print_numbers("a group of no blocks", combine_group(&[]));
 
     // A mast camera as its maker sends it: where it stands, and the window at a distance of one that it looks through.
     let camera_view = rows([[1.0, 0.0, 0.0, 0.0], [0.0, 1.0, 0.0, 0.0], [0.0, 0.0, 1.0, 0.0], [-2000.0, 500.0, -300.0, 1.0]]);

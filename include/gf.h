@@ -28,6 +28,7 @@
  *   8  a number of a camera is not finite
  *   9  a farm file is too short, or its directory does not say where its sections lie
  *   10 a section of a farm file is not as long as its record
+ *   11 a group of boxes is empty, or has more numbers than 256 boxes
  *
  * With status 0 all of `out` is written. Every refusal leaves `out` unchanged. Slices lent for reading are never written.
  * Where more than one refusal applies, the one that "Refuses" lists first is returned. A result of several numbers goes into a
@@ -245,6 +246,12 @@ uint32_t gf_farm_file(const uint8_t *file, size_t file_len, uint32_t *out, size_
  * either one's is.
  * In: a 23, b 23. Out: 23 numbers. Refuses: 1, 2, 3. */
 uint32_t gf_bbox_combine(const double *a, size_t a_len, const double *b, size_t b_len, double *out, size_t out_len);
+
+/* One box that holds those of a group, from 1 to 256 box records one behind another: what gf_bbox_combine leaves of the first two,
+ * then of that and the third, and so on to the last. A single box comes back as it is, number for number. 11: there is no number,
+ * or there are more than 5888; 1: their count is not a multiple of 23; 3: the flag of any of the boxes.
+ * In: boxes 23 each. Out: 23 numbers. Refuses: 11, 1, 2, 3. */
+uint32_t gf_bbox_combine_group(const double *boxes, size_t boxes_len, double *out, size_t out_len);
 
 /* The box under a matrix that is applied after its own; range and flag are kept.
  * In: b 23, m 16. Out: 23 numbers. Refuses: 1, 2, 3. */

@@ -6,7 +6,6 @@ use crate::inputs::{self, FarmBox, Rng, Turn, Whole, WholePlane, farm_volume, fl
 use crate::lent::{Lent, Side};
 use crate::op::Op;
 use crate::trial::{Outcome, Trial};
-use std::array;
 use std::fmt::Debug;
 
 /// A function that is asked, by its name.
@@ -19,9 +18,10 @@ enum Ask {
     Product,
     Combine,
     AlignedRange,
+    Group,
 }
 
-const NAMES: [&str; 7] = [
+const NAMES: [&str; 8] = [
     "intersects_point",
     "intersects_segment",
     "intersects_bbox",
@@ -29,6 +29,7 @@ const NAMES: [&str; 7] = [
     "product",
     "bbox_combine",
     "bbox_aligned_range",
+    "bbox_combine_group",
 ];
 
 /// One who answers: the Rust, or the archive.
@@ -104,6 +105,8 @@ pub fn all(ops: &[Box<dyn Op>]) -> Vec<Farm<'_>> {
         farm("turned segments", &[Ask::Segment, Ask::Transform], turned_segments),
         farm("turned boxes", &[Ask::Box, Ask::Product], turned_boxes),
         farm("combined boxes", &[Ask::Combine, Ask::AlignedRange], combined),
+        farm("grouped boxes", &[Ask::Group, Ask::AlignedRange], grouped),
+        farm("members of groups", &[Ask::Group, Ask::Box], members),
     ]
 }
 
@@ -208,12 +211,14 @@ fn turned_boxes(engines: &[Engine], case: u64, rng: &mut Rng) -> Result<usize, S
 /// The most boxes in a list.
 const LIST: u64 = 8;
 
+/// The range that grid boxes are placed in together.
+fn range_of(list: &[FarmBox]) -> [f64; 6] {
+    inputs::joined(&inputs::placed_together(list).map(floats).each_ref().map(|corner| &corner[..]))
+}
+
 fn combined(engines: &[Engine], _: u64, rng: &mut Rng) -> Result<usize, String> {
     let list: Vec<FarmBox> = (0..1 + rng.below(LIST)).map(|_| inputs::farm_box(rng)).collect();
-    let extreme = |of: usize, pick: fn(i64, i64) -> i64| -> Whole {
-        array::from_fn(|i| list.iter().map(|b| b.placed()[of][i]).reduce(pick).expect("a box"))
-    };
-    let exact: [f64; 6] = inputs::joined(&[&floats(extreme(0, i64::min)), &floats(extreme(1, i64::max))]);
+    let exact = range_of(&list);
     let order = rng.bits();
     for engine in engines {
         let rng = &mut Rng::at(order, 0);
@@ -227,6 +232,50 @@ fn combined(engines: &[Engine], _: u64, rng: &mut Rng) -> Result<usize, String> 
         engine.expect("the range of boxes combined", range, exact, &list)?;
     }
     Ok(0)
+}
+
+/// A list in any order and in any parts: some of what is left, taken in any
+/// order, are grouped and their result takes their place, until one is left.
+fn grouped(engines: &[Engine], _: u64, rng: &mut Rng) -> Result<usize, String> {
+    let size = if rng.once_in(512) { 1 + rng.below(600) } else { 1 + rng.below(12) };
+    let list: Vec<FarmBox> = (0..size).map(|_| inputs::farm_box(rng)).collect();
+    let exact = range_of(&list);
+    let order = rng.bits();
+    for engine in engines {
+        let rng = &mut Rng::at(order, 0);
+        let mut left: Vec<[f64; 23]> = list.iter().map(FarmBox::record).collect();
+        loop {
+            let most = left.len().min(inputs::MOST_BOXES) as u64;
+            let size = if rng.once_in(4) { most } else { 1 + rng.below(most) };
+            let group: Vec<[f64; 23]> =
+                (0..size).map(|_| left.swap_remove(rng.below(left.len() as u64) as usize)).collect();
+            left.push(engine.numbers(Ask::Group, &[group.as_flattened()])?);
+            if left.len() == 1 {
+                break;
+            }
+        }
+        let range = engine.numbers(Ask::AlignedRange, &[&left[0]])?;
+        engine.expect("the range of boxes grouped", range, exact, &list)?;
+    }
+    Ok(0)
+}
+
+/// A group that is out of a view has no member in it.
+fn members(engines: &[Engine], _: u64, rng: &mut Rng) -> Result<usize, String> {
+    let (planes, list) = inputs::farm_group_view(rng, LIST);
+    let volume = farm_volume(&planes);
+    let records: Vec<[f64; 23]> = list.iter().map(FarmBox::record).collect();
+    let mut kind = 0;
+    for engine in engines {
+        let group: [f64; 23] = engine.numbers(Ask::Group, &[records.as_flattened()])?;
+        let verdict = engine.verdict(Ask::Box, &[&volume, &group])?;
+        for record in &records {
+            let member = engine.verdict(Ask::Box, &[&volume, record])?;
+            engine.expect("a member of a group that is out", member && !verdict, false, &(planes, &list))?;
+        }
+        kind = outcome(verdict);
+    }
+    Ok(kind)
 }
 
 impl Trial for Farm<'_> {

@@ -24,6 +24,8 @@ pub const NOT_FINITE: u32 = 8;
 pub const NO_FARM_FILE: u32 = 9;
 /// A section of a farm file is not as long as its record.
 pub const WRONG_SECTION: u32 = 10;
+/// Paper 02's: an empty group, or one of more numbers than 256 boxes have.
+pub const GROUP_SIZE: u32 = 11;
 
 /// Paper 01's rule: equal bits, both NaN, or both zero.
 pub fn matches(judge: f64, ours: f64) -> bool {

@@ -63,6 +63,7 @@ mod tests {
                 214 | 215 => &[5],
                 217 => &[6],
                 223 => &[4, 6, 8],
+                224 => &[3, 11],
                 _ => &[],
             };
             assert_eq!(statuses, refusals.iter().copied().chain([0]).collect(), "{}", op.name());

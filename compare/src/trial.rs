@@ -7,7 +7,7 @@ use std::ops::Range;
 pub struct Outcome;
 
 impl Outcome {
-    pub const NAMES: [&'static str; 18] = [
+    pub const NAMES: [&'static str; 19] = [
         "done",
         "refused 1",
         "refused 2",
@@ -19,6 +19,7 @@ impl Outcome {
         "refused 8",
         "refused 9",
         "refused 10",
+        "refused 11",
         "no",
         "yes",
         "zero",
@@ -27,10 +28,10 @@ impl Outcome {
         "infinite",
         "NaN",
     ];
-    pub const NO: usize = 11;
-    pub const YES: usize = 12;
+    pub const NO: usize = 12;
+    pub const YES: usize = 13;
     /// The first of the kinds of number.
-    pub const NUMBER: usize = 13;
+    pub const NUMBER: usize = 14;
 }
 
 /// How many differing cases are described.

@@ -313,10 +313,28 @@ pub fn farm_box(rng: &mut Rng) -> FarmBox {
     FarmBox { min, max, placement, flag: rng.once_in(2) }
 }
 
+/// The least and the greatest of the placed corners of boxes on each axis.
+pub fn placed_together(boxes: &[FarmBox]) -> [Whole; 2] {
+    let extreme = |of: usize, pick: fn(i64, i64) -> i64| -> Whole {
+        array::from_fn(|i| boxes.iter().map(|b| b.placed()[of][i]).reduce(pick).expect("a box"))
+    };
+    [extreme(0, i64::min), extreme(1, i64::max)]
+}
+
 /// Axis planes about a grid box; three in four times they share a point.
 pub fn farm_box_view(rng: &mut Rng) -> ([WholePlane; 6], FarmBox) {
     let farm_box = farm_box(rng);
-    let [least, greatest] = farm_box.placed();
+    (axis_planes(rng, farm_box.placed()), farm_box)
+}
+
+/// Axis planes about a group of grid boxes.
+pub fn farm_group_view(rng: &mut Rng, most: u64) -> ([WholePlane; 6], Vec<FarmBox>) {
+    let boxes: Vec<FarmBox> = (0..1 + rng.below(most)).map(|_| farm_box(rng)).collect();
+    (axis_planes(rng, placed_together(&boxes)), boxes)
+}
+
+/// Axis planes about what lies from a least to a greatest corner.
+fn axis_planes(rng: &mut Rng, [least, greatest]: [Whole; 2]) -> [WholePlane; 6] {
     let shared: Whole = array::from_fn(|i| match rng.below(8) {
         0..2 => least[i],
         2..4 => greatest[i],
@@ -326,13 +344,12 @@ pub fn farm_box_view(rng: &mut Rng) -> ([WholePlane; 6], FarmBox) {
         _ => coordinate(rng),
     });
     let sharing = !rng.once_in(4);
-    let planes = array::from_fn(|_| {
+    array::from_fn(|_| {
         let normal = axis(rng).map(|x| x as i64);
         let slack = if rng.once_in(2) { 0 } else { rng.pick(&[1, 2, 1000, 200_000]) };
         let slack = if sharing || rng.once_in(2) { slack } else { -slack };
         WholePlane { normal, distance: whole_dot(normal, shared) - slack }
-    });
-    (planes, farm_box)
+    })
 }
 
 /// A turn after which all this is within the limits still.

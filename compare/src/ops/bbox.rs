@@ -18,7 +18,7 @@ const TURNED: Matrix = [0.0, 1.0, 0.0, 0.0, -1.0, 0.0, 0.0, 0.0, 0.0, 0.0, 1.0, 
 const FLAT: Matrix = diagonal([9e-14, 1.0, 1.0, 1.0]);
 
 /// Boxes on which a port goes wrong.
-fn fixed() -> Vec<Boxed> {
+pub(super) fn fixed() -> Vec<Boxed> {
     let sheared = with(IDENTITY, &[(1, 0.5), (6, -0.25), (12, 3.0)]);
     vec![
         box_of(UNIT, IDENTITY, 0.0),

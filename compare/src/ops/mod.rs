@@ -3,6 +3,7 @@
 
 mod bbox;
 mod camera;
+mod group;
 mod matrix;
 mod number;
 mod plane;
@@ -24,6 +25,7 @@ pub fn all() -> Vec<Box<dyn Op>> {
         projection::all(),
         verdict::all(),
         camera::all(),
+        group::all(),
     ];
     files.into_iter().flatten().collect()
 }
@@ -33,6 +35,6 @@ mod tests {
     #[test]
     fn codes_are_in_the_order_of_the_functions() {
         let codes: Vec<u64> = super::all().iter().map(|op| op.code()).collect();
-        assert_eq!(codes, (1..=7).chain(101..=116).chain(201..=223).collect::<Vec<u64>>());
+        assert_eq!(codes, (1..=7).chain(101..=116).chain(201..=224).collect::<Vec<u64>>());
     }
 }

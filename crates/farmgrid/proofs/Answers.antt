@@ -11,8 +11,8 @@ use Rattle.matrix.specs.Matrix.{matrixOf}
 use Rattle.matrix.specs.Range.{bounds}
 use Rattle.matrix.specs.Transform.{transformed}
 use Rattle.matrix.specs.Calls.{transformCall}
-use Rattle.verdict.specs.BBox.{boxOf, numbers, placed, combined, alignedRange}
-use Rattle.verdict.specs.BBoxCalls.{flagged, transformCall as placedCall, combineCall, alignedRangeCall}
+use Rattle.verdict.specs.BBox.{boxOf, numbers, placed, alignedRange}
+use Rattle.verdict.specs.BBoxCalls.{flagged, transformCall as placedCall, alignedRangeCall}
 use Rattle.verdict.specs.Volume.{volumeLength, planesOf}
 use Rattle.verdict.specs.Frustum.{pointOf, segmentOf, boxOf as inView}
 use Rattle.verdict.specs.FrustumCalls.{intersectsPointCall, intersectsSegmentCall, intersectsBoxCall}
@@ -43,11 +43,6 @@ pub box-moves : (b m out : List Float) → length b ≡ 23 → length m ≡ 16 �
     → placedCall b m out ≡ write (numbers (placed (boxOf b) (matrixOf m)))
 unfolding placedCall leaving
 box-moves b m out h i j f = rw (has-yes 23 b h, has-yes 16 m i, has-yes 23 out j, f)
-
-pub combine-writes : (a b out : List Float) → length a ≡ 23 → length b ≡ 23 → length out ≡ 23 → flagged a ≡ true → flagged b ≡ true
-    → combineCall a b out ≡ write (numbers (combined (boxOf a) (boxOf b)))
-unfolding combineCall leaving
-combine-writes a b out h i j f g = rw (has-yes 23 a h, has-yes 23 b i, has-yes 23 out j, f, g)
 
 pub range-writes : (s out : List Float) → length s ≡ 23 → length out ≡ 6 → flagged s ≡ true
     → alignedRangeCall s out ≡ write (bounds (alignedRange (boxOf s)))

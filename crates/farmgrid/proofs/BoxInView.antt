@@ -22,7 +22,7 @@ use Rattle.farmgrid.specs.FarmGrid.{WholePlane, AxisPlane, WholeBox, Gri
 use Rattle.farmgrid.specs.FarmGrid.{ExactPoint, Satisfies, InBox, Share, BoxInView}
 use Rattle.farmgrid.proofs.EveryPlane.{every-of, every-both}
 use Rattle.farmgrid.proofs.BoxReach.{Reaches, endOf, reaches-along}
-use Rattle.farmgrid.proofs.BoxPlane.{box-reaches}
+use Rattle.farmgrid.proofs.BoxPlane.{grid-wide, box-reaches}
 
 -- ---- along one axis: a coordinate x over k, the box from low to high, and a plane at d; its normal is turned where s is true
 -- the coordinate of the box that is nearest to x
@@ -108,7 +108,7 @@ pub box-is : {ps : List Plane} {Ps : List WholePlane} {b : BBox3d} {B : WholeBox
 box-is {Ps = Ps} {B = B} hs S g =
     let G = g .grid in
     let X = S .point in
-    let r = box-reaches g hs in (
+    let r = box-reaches (grid-wide g) hs in (
       λ v. record {
         point = clamped G X;
         held = clamped-in G X;

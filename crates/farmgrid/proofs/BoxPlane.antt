@@ -1,4 +1,5 @@
--- The test of a grid box by an axis plane is exact: yes just where the placed box reaches the plane or past it.
+-- The test of a grid box by an axis plane is exact: yes just where the placed box reaches the plane or past it. So is that of a box that combining made of
+-- grid boxes, whose range may be twice as large as the grid.
 -- The idea: a placement has an inverse, so that its transpose carries the plane's equation into the box's space, in whole numbers far
 -- below 2 ^ 53; the normal there is a single 1 or -1 again, of length exactly 1.0, and stays as it is; and of the corner that the code
 -- takes only the coordinate along that axis counts.
@@ -6,7 +7,7 @@ use mathlib.Core.Path.{_≡_, ap, _∙_, subst}
 use mathlib.Core.Logic.{_↔_, Iff·trans, Iff·symm}
 use mathlib.Core.Bool.{Bool, cond}
 use mathlib.Core.List.{List}
-use Prim.Native.Nat.{ℕ, _^_, _≤_, _<_}
+use Prim.Native.Nat.{ℕ, _+_, _^_, _≤_, _<_}
 use native.Mathlib.Omega.{arith}
 use lib.Dec.{T, eqb, lit<, lit≤}
 use lib.IntN.{ℤ, pos, negℤ, natAbs, _+ℤ_, _-ℤ_, _*ℤ_}
@@ -23,9 +24,9 @@ use Rattle.matrix.specs.Matrix.{transpose}
 use Rattle.matrix.specs.Transform.{homogeneous}
 use Rattle.matrix.specs.declared.vec.Vec3d.{Vec3d}
 use Rattle.matrix.specs.declared.vec.Vec4d.{Vec4d}
-use Rattle.farmgrid.specs.Placement.{WholeVec, WholeVec4, dotℤ, dot4ℤ, sizes}
+use Rattle.farmgrid.specs.Placement.{WholeVec, WholeVec4, WholeRange, WholeMatrix, Within, NonEmpty, Placement, gridSize, dotℤ, dot4ℤ, sizes}
 use Rattle.farmgrid.proofs.Signs.{_⊞_, _⊟_, _⊠_, abs-flip}
-use Rattle.farmgrid.proofs.QuarterTurns.{three, four, single, single-dot, widen-placement}
+use Rattle.farmgrid.proofs.QuarterTurns.{three, four, single, single-dot, widen, widen-placement}
 use Rattle.farmgrid.proofs.WholeMatrices.{zero-whole, one-whole, axis-fit, dot-fit, whole-vec3, transposed-whole}
 use Rattle.farmgrid.proofs.Units.{unit-length, unit-normalized}
 use Rattle.farmgrid.proofs.Inverses.{inverse-whole}
@@ -40,15 +41,29 @@ use Rattle.farmgrid.proofs.EveryPlane.{every-is}
 use Rattle.farmgrid.proofs.Distance.{same-test, non-negative}
 use Rattle.farmgrid.proofs.BoxReach.{Reaches, inSpace, ahead, distanceIn, in-space-single, reach-in-space, at-least}
 
+-- ---- boxes that are placed as grid boxes are, with ranges up to twice the size of the grid
+pub record Wide (b : BBox3d) (B : WholeBox) : Type 0 where
+  pub range : WholeRange (b .range) (B .low) (B .high)
+  pub matrix : WholeMatrix (b .matrix) (B .matrix)
+  pub low : Within (gridSize + gridSize) (B .low)
+  pub high : Within (gridSize + gridSize) (B .high)
+  pub some : NonEmpty (B .low) (B .high)
+  pub placement : Placement (B .matrix)
+
+pub grid-wide : {b : BBox3d} {B : WholeBox} → IsBox b B → Wide b B
+grid-wide h =
+    let g = h .grid in
+    record { range = h .range; matrix = h .matrix; low = widen (lit≤ tt) (g .low); high = widen (lit≤ tt) (g .high); some = g .some; placement = g .placement }
+
 -- ---- the matrix into the box's space
 epsilon-below-one : T (lt boxEpsilon one)
 unfolding lt round
 epsilon-below-one = tt
 
--- "The plane tests take a degenerate box as if its matrix were the identity": a grid box is not degenerate
-into-space : {b : BBox3d} {B : WholeBox} → IsBox b B → intoSpaceOf b ≡ transpose (b .matrix)
+-- "The plane tests take a degenerate box as if its matrix were the identity": such a box is not degenerate
+into-space : {b : BBox3d} {B : WholeBox} → Wide b B → intoSpaceOf b ≡ transpose (b .matrix)
 into-space {b} g =
-    ap (intoSpace (b .matrix)) (inverse-whole (g .matrix) (widen-placement (lit≤ tt) (g .grid .placement)) boxEpsilon epsilon-below-one .accepted)
+    ap (intoSpace (b .matrix)) (inverse-whole (g .matrix) (widen-placement (lit≤ tt) (g .placement)) boxEpsilon epsilon-below-one .accepted)
 
 -- ---- the parts of the test, over whole floats
 -- the end of a span that a number points toward; a zero of either sign points to the greater end
@@ -88,7 +103,7 @@ module _ {p : Plane} {P : WholePlane} (h : IsPlane AxisPlane p P) where
       upper = three (λ i. natAbs (equationℤ P i) ≤ 2 ^ 26) (entry 0 (lit< tt)) (entry 1 (lit< tt)) (entry 2 (lit< tt))
 
   -- ---- carried into the space of a box
-  module _ {b : BBox3d} {B : WholeBox} (g : IsBox b B) where
+  module _ {b : BBox3d} {B : WholeBox} (g : Wide b B) where
     abbrev f : ℕ → ℕ → ℤ
     f = B .matrix
 
@@ -108,10 +123,10 @@ module _ {p : Plane} {P : WholePlane} (h : IsPlane AxisPlane p P) where
     q = fromEquation carried
 
     carried-whole : WholeVec4 carried (λ j. dot4ℤ (equationℤ P) (f j))
-    carried-whole = transposed-whole (g .matrix) (widen-placement (lit≤ tt) (g .grid .placement)) equation-whole equation-size
+    carried-whole = transposed-whole (g .matrix) (widen-placement (lit≤ tt) (g .placement)) equation-whole equation-size
 
     u-single : sizes u ≡ 1
-    u-single = in-space-single (g .grid .placement .turn) (P .normal) (h .kind .single)
+    u-single = in-space-single (g .placement .turn) (P .normal) (h .kind .single)
 
     u-size : (i : ℕ) → i < 3 → natAbs (u i) ≤ 1
     u-size = let e = u-single in three (λ i. natAbs (u i) ≤ 1) (omega arith) (omega arith) (omega arith)
@@ -119,7 +134,7 @@ module _ {p : Plane} {P : WholePlane} (h : IsPlane AxisPlane p P) where
     -- its normal
     n-whole : WholeVec n u
     n-whole = whole-vec3 (axis4 carried) (λ i l.
-        subst (Whole (axis4 carried i)) (ap (λ (z : ℤ). u i +ℤ d *ℤ z) (g .grid .placement .zeros i l) ∙ none-of (u i) d)
+        subst (Whole (axis4 carried i)) (ap (λ (z : ℤ). u i +ℤ d *ℤ z) (g .placement .zeros i l) ∙ none-of (u i) d)
         (carried-whole .at i (omega arith)))
       where
         none-of : (x y : ℤ) → x +ℤ y *ℤ pos 0 ≡ x
@@ -134,7 +149,7 @@ module _ {p : Plane} {P : WholePlane} (h : IsPlane AxisPlane p P) where
 
     w-whole : Whole (carried .w) w
     w-whole = subst (Whole (carried .w))
-        (ap (λ (z : ℤ). dotℤ (P .normal) (f 3) +ℤ d *ℤ z) (g .grid .placement .last) ∙ all-of (dotℤ (P .normal) (f 3)) (P .distance))
+        (ap (λ (z : ℤ). dotℤ (P .normal) (f 3) +ℤ d *ℤ z) (g .placement .last) ∙ all-of (dotℤ (P .normal) (f 3)) (P .distance))
         (carried-whole .at 3 (lit< tt))
       where
         all-of : (x y : ℤ) → x +ℤ negℤ y *ℤ pos 1 ≡ x -ℤ y
@@ -144,7 +159,7 @@ module _ {p : Plane} {P : WholePlane} (h : IsPlane AxisPlane p P) where
     w-size =
         let s = single {p = P .normal} (h .kind .single) in
         let l = h .kind .segment .far in
-        let l' = g .grid .placement .translation .size (s .from) (s .below) in
+        let l' = g .placement .translation .size (s .from) (s .below) in
         omega (arith, abs-minus (dotℤ (P .normal) (f 3)) (P .distance), ap natAbs (single-dot s (f 3)), abs-flip (s .sign) (f 3 (s .from)))
 
     distance-whole : Whole (q .distance) (distanceIn f P)
@@ -163,14 +178,14 @@ module _ {p : Plane} {P : WholePlane} (h : IsPlane AxisPlane p P) where
     along-whole : Whole (dot (q .normal) (furthest (q .normal) (b .range))) (dotℤ u (ahead u (B .low) (B .high)))
     along-whole = dot-fit (lit≤ tt) (axis (q .normal)) corner u (ahead u (B .low) (B .high))
         (λ i l. record { whole = normal-whole .at i l; size = u-size i l })
-        (λ i l. toward-fit (normal-whole .at i l) (axis-fit (g .range .min) (g .grid .low) i l)
-        (axis-fit (g .range .max) (g .grid .high) i l)) .whole
+        (λ i l. toward-fit (normal-whole .at i l) (axis-fit (g .range .min) (g .low) i l)
+        (axis-fit (g .range .max) (g .high) i l)) .whole
 
     carried-exact : T (reachesPositiveSide q (b .range)) ↔ Reaches B P
     unfolding reachesPositiveSide
     carried-exact =
-        let o = g .grid .some in
-        let e = reach-in-space P B (g .grid .placement .turn) (h .kind .single) o in
+        let o = g .some in
+        let e = reach-in-space P B (g .placement .turn) (h .kind .single) o in
         let r = at-least (distanceIn f P) (dotℤ u (ahead u (B .low) (B .high))) in
         rw (nonempty-whole (g .range) o)
         (Iff·trans (le-whole distance-whole along-whole) (λ t. record { reach = rw (← e) (r .0 t) }, λ t. r .1 (rw e (t .reach))))
@@ -180,10 +195,10 @@ module _ {p : Plane} {P : WholePlane} (h : IsPlane AxisPlane p P) where
     plane-exact = rw (into-space g) carried-exact
 
 -- ---- the verdict: every plane is reached
-module _ {b : BBox3d} {B : WholeBox} (g : IsBox b B) where
+module _ {b : BBox3d} {B : WholeBox} (g : Wide b B) where
   abbrev test : Plane → Bool
   test p = reachesPositiveSide (underInverseTranspose (intoSpaceOf b) p) (b .range)
 
   pub box-reaches : {ps : List Plane} {Ps : List WholePlane} → ArePlanes AxisPlane ps Ps → T (boxOf ps b) ↔ Every (Reaches B) Ps
   unfolding boxOf
-  box-reaches hs = rw (nonempty-whole (g .range) (g .grid .some)) (every-is AxisPlane test (Reaches B) (λ p P h. plane-exact h g) hs)
+  box-reaches hs = rw (nonempty-whole (g .range) (g .some)) (every-is AxisPlane test (Reaches B) (λ p P h. plane-exact h g) hs)

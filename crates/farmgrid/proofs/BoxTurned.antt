@@ -16,7 +16,7 @@ use Rattle.farmgrid.proofs.Distance.{gap, same-test}
 use Rattle.farmgrid.proofs.EveryPlane.{every-moved}
 use Rattle.farmgrid.proofs.Turned.{gap-moved}
 use Rattle.farmgrid.proofs.BoxReach.{Reaches, reachOf}
-use Rattle.farmgrid.proofs.BoxPlane.{box-reaches}
+use Rattle.farmgrid.proofs.BoxPlane.{grid-wide, box-reaches}
 
 module _ {a : ℕ} {f : ℕ → ℕ → ℤ} (F : PlacementWithin a f) where
   module _ {c : ℕ} (B : WholeBox) (G : PlacementWithin c (B .matrix)) where
@@ -39,4 +39,4 @@ module _ {a : ℕ} {f : ℕ → ℕ → ℤ} (F : PlacementWithin a f) where
       {b b' : BBox3d} {B : WholeBox} (g : IsBox b B) (g' : IsBox b' (movedBox f B)) where
     pub box-turned : boxOf ps' b' ≡ boxOf ps b
     box-turned = same-test (boxOf ps' b') (boxOf ps b)
-        (Iff·trans (box-reaches g' hs') (Iff·trans (all-moved B (g .grid .placement) Ps) (Iff·symm (box-reaches g hs))))
+        (Iff·trans (box-reaches (grid-wide g') hs') (Iff·trans (all-moved B (g .grid .placement) Ps) (Iff·symm (box-reaches (grid-wide g) hs))))

@@ -2,13 +2,13 @@
 -- leaves a record again, or the range that the box is placed as. The idea: a box written into its record is read back as it was, its flag
 -- a 0 or a 1; the rest is said of boxes.
 use mathlib.Core.Path.{_≡_, refl, sym, ap, subst}
-use mathlib.Core.Bool.{Bool, true, false}
+use mathlib.Core.Bool.{true, false}
 use mathlib.Core.List.{List}
 use Prim.Native.Nat.{ℕ, _<_}
 use lib.Dec.{lit≤}
 use lib.ListN.{length}
 use lib.IntN.{ℤ}
-use lib.Ieee.{Float, eq, round}
+use lib.Ieee.{Float}
 use lib.Ieee.Bits.{is-true}
 use Rattle.number.specs.Answer.{Reply, write}
 use Rattle.farmgrid.specs.Whole.{Whole}
@@ -19,11 +19,12 @@ use Rattle.farmgrid.specs.Placement.{WholeRange}
 use Rattle.farmgrid.proofs.QuarterTurns.{widen, widen-placement}
 use Rattle.farmgrid.proofs.WholeRanges.{transformed-whole}
 use Rattle.verdict.specs.declared.bbox.BBox3d.{BBox3d}
-use Rattle.verdict.specs.BBox.{numbers, boxOf, flagOf, isFlag, alignedRange, combined}
+use Rattle.verdict.specs.BBox.{numbers, boxOf, alignedRange, combined}
 use Rattle.verdict.specs.BBoxCalls.{flagged, combineCall, alignedRangeCall}
+use Rattle.group.proofs.Written.{flag-read, combine-writes}
 use Rattle.farmgrid.specs.FarmGrid.{WholeBox}
 use Rattle.farmgrid.specs.Records.{BoxRecord, Accepted}
-use Rattle.farmgrid.proofs.Answers.{combine-writes, range-writes}
+use Rattle.farmgrid.proofs.Answers.{range-writes}
 use Rattle.farmgrid.proofs.Extents.{Extent, join}
 use Rattle.farmgrid.proofs.CombinedBoxes.{Holds, extentOf, box-holds, combined-holds}
 
@@ -38,12 +39,7 @@ grid-stands {s} {B} h = record { numbers = h .numbers; flag = is-true (flagged s
 
 -- ---- a box in its record
 
-pub flag-read : (f : Bool) → isFlag (flagOf f) ≡ true
-unfolding eq round
-flag-read false = refl
-flag-read true = refl
-
-written : (b : BBox3d) {e : Extent} → Holds (b .range) (b .matrix) e → Stands (numbers b) e
+pub written : (b : BBox3d) {e : Extent} → Holds (b .range) (b .matrix) e → Stands (numbers b) e
 written b h = record { numbers = refl; flag = flag-read (b .flag); holds = h }
 
 -- ---- the calls

@@ -17,26 +17,26 @@ use Rattle.farmgrid.proofs.PlacedCorners.{listed, listed-least, listed-
 use Rattle.farmgrid.proofs.CombinedRecords.{Stands, grid-stands, combine-accepted, combine-stands, range-status, range-numbers, range-exact}
 
 -- the records of a list stand for those extents, one by one
-data Stand : List (List Float) → List Extent → Type 0 where
+pub data Stand : List (List Float) → List Extent → Type 0 where
   nothing : Stand [] []
   also : {s : List Float} {e : Extent} {ss : List (List Float)} {es : List Extent} → Stands s e → Stand ss es → Stand (s ∷ ss) (e ∷ es)
 
 -- the records of a list stand for extents whose union with any further extent is as f has it
-record Total (ss : List (List Float)) (f : Extent → Extent) : Type 0 where
-  extents : List Extent
-  stand : Stand ss extents
-  total : (x : Extent) → over x extents ≡ f x
+pub record Total (ss : List (List Float)) (f : Extent → Extent) : Type 0 where
+  pub extents : List Extent
+  pub stand : Stand ss extents
+  pub total : (x : Extent) → over x extents ≡ f x
 
 -- ---- a record taken out of a list
 
-record Taken (s : List Float) (rest : List (List Float)) (es : List Extent) : Type 0 where
-  own : Extent
-  others : List Extent
-  stands : Stands s own
-  stand : Stand rest others
-  total : (x : Extent) → over x es ≡ join own (over x others)
+pub record Taken (s : List Float) (rest : List (List Float)) (es : List Extent) : Type 0 where
+  pub own : Extent
+  pub others : List Extent
+  pub stands : Stands s own
+  pub stand : Stand rest others
+  pub total : (x : Extent) → over x es ≡ join own (over x others)
 
-taken : {s : List Float} {ss rest : List (List Float)} {es : List Extent} → Picked s ss rest → Stand ss es → Taken s rest es
+pub taken : {s : List Float} {ss rest : List (List Float)} {es : List Extent} → Picked s ss rest → Stand ss es → Taken s rest es
 taken first (also {e = e} {es = es} h hs) = record { own = e; others = es; stands = h; stand = hs; total = λ x. refl }
 taken (later p) (also {e = e} h hs) =
     let t = taken p hs in
@@ -76,7 +76,7 @@ left-total (call two out room rest) T = left-total rest (called two T out room)
 
 -- ---- the start, and the end
 
-start : {ss : List (List Float)} {B : WholeBox} {Bs : List WholeBox} → BoxRecords ss (B ∷ Bs) → Total ss (join (listed B Bs))
+pub start : {ss : List (List Float)} {B : WholeBox} {Bs : List WholeBox} → BoxRecords ss (B ∷ Bs) → Total ss (join (listed B Bs))
 start {B = B} (more h none) = record {
   extents = extentOf B ∷ [];
   stand = also (grid-stands h) nothing;
@@ -90,7 +90,7 @@ start {B = B} {Bs = C ∷ Cs} (more h (more g gs)) =
       total = λ x. ap (join (extentOf B)) (T .total x) ∙ sym (join-assoc (extentOf B) (listed C Cs) x);
     }
 
-last-stands : {s : List Float} {es : List Extent} (e : Extent) → Stand (s ∷ []) es → ((x : Extent) → over x es ≡ join e x) → Stands s e
+pub last-stands : {s : List Float} {es : List Extent} (e : Extent) → Stand (s ∷ []) es → ((x : Extent) → over x es ≡ join e x) → Stands s e
 last-stands {s} e (also {e = e'} h nothing) t = subst (Stands s) (join-cancel e' e t) h
 
 pub combining-exact : CombiningExact

@@ -43,3 +43,7 @@ pub mod CombinedBoxes
 pub mod PlacedCorners
 pub mod CombinedRecords
 pub mod Combining
+-- grouping
+pub mod Groups
+pub mod Grouping
+pub mod GroupOut

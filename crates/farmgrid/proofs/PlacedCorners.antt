@@ -84,7 +84,7 @@ module _ (u : Bool) (j : ℕ) where
   extent-picked false B = refl
   extent-picked true B = refl
 
-  box-among : (B : WholeBox) (Bs : List WholeBox) → Coordinate j (extentOf B u j) (B ∷ Bs)
+  pub box-among : (B : WholeBox) (Bs : List WholeBox) → Coordinate j (extentOf B u j) (B ∷ Bs)
   box-among B Bs =
       let m = picked-met u (λ k. placedCornerOf B k j) 7 in
       own (m .k) (omega arith) (extent-picked u B ∙ m .is)

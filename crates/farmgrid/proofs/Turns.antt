@@ -25,7 +25,7 @@ use Rattle.farmgrid.specs.Turns.{TurnedPoint, TurnedBox, TurnKeepsVerdic
 use Rattle.farmgrid.proofs.QuarterTurns.{widen, widen-placement}
 use Rattle.farmgrid.proofs.WholeMatrices.{point-whole, product-whole}
 use Rattle.farmgrid.proofs.Answers.{point-answer, segment-answer, box-answer, point-moves, box-moves}
-use Rattle.farmgrid.proofs.CombinedRecords.{flag-read}
+use Rattle.group.proofs.Written.{flag-read}
 use Rattle.farmgrid.proofs.Turned.{point-turned, segment-turned}
 use Rattle.farmgrid.proofs.BoxTurned.{box-turned}
 

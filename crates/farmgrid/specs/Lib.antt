@@ -7,3 +7,4 @@ pub mod Verdicts
 pub mod Survey
 pub mod Turns
 pub mod Combining
+pub mod Grouping

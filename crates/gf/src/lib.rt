@@ -3,6 +3,7 @@ pub mod bbox_calls;
 pub mod camera_calls;
 pub mod farm_calls;
 pub mod frustum_calls;
+pub mod group_calls;
 pub mod matrix_calls;
 pub mod number_calls;
 pub mod plane_calls;

@@ -13,6 +13,7 @@ pub enum Refusal {
     NotFinite,
     Directory,
     SectionLength,
+    GroupSize,
 }
 
 pub enum Written {
@@ -47,6 +48,7 @@ impl Refusal {
             Refusal::NotFinite => 8,
             Refusal::Directory => 9,
             Refusal::SectionLength => 10,
+            Refusal::GroupSize => 11,
         }
     }
 }

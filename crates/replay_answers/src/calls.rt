@@ -1,14 +1,15 @@
-// The operations of the crates `number`, codes from 1, `matrix`, from 101, `verdict`, from 201, and `camera`, 223.
+// The operations of the crates `number`, codes from 1, `matrix`, from 101, `verdict`, from 201, `camera`, 223, and `group`, 224.
 ghost use Prim.Native.Nat.{_<_};
 use crate::camera_operations;
+use crate::group_operations;
 use crate::matrix_operations;
 use crate::number_operations;
 use crate::verdict_operations;
 use replay::inputs::first;
 use replay::inputs::rest;
 
-// The lengths of its four inputs, and of its result; no result where there is no such operation.
-pub(crate) fn lengths(code: u64) -> [u8; 5] {
+// The lengths of its four inputs, and of its result, where so many numbers are given; no result where there is no such operation.
+pub(crate) fn lengths(code: u64, given: usize) -> [u8; 5] {
     if code <= 100 {
         return number_operations::lengths(code);
     }
@@ -17,6 +18,9 @@ pub(crate) fn lengths(code: u64) -> [u8; 5] {
     }
     if code <= 222 {
         return verdict_operations::lengths(code);
+    }
+    if code == 224 {
+        return group_operations::lengths(given);
     }
     camera_operations::lengths(code)
 }
@@ -28,15 +32,16 @@ pub(crate) fn slot(code: u64) -> usize
     if 256 <= code {
         return 0;
     }
-    if lengths(code)[4] == 0 {
+    if lengths(code, 0)[4] == 0 {
         return 0;
     }
     code as usize
 }
 
-// Whether the zeros of its result must have the signs that were recorded: all but `combine`'s, whose judge chooses other zeros.
+// Whether the zeros of its result must have the signs that were recorded: all but those of `combine` and of groups, whose judge
+// chooses other zeros.
 pub(crate) fn signed(code: u64) -> bool {
-    code != 201
+    (code != 201) & (code != 224)
 }
 
 // Calls an operation with inputs of these lengths, and answers its status.
@@ -55,6 +60,9 @@ pub(crate) fn call(code: u64, given: &[f64], lengths: [u8; 5], out: &mut [f64]) 
     }
     if code <= 222 {
         return verdict_operations::call(code, a, b, c, d, out);
+    }
+    if code == 224 {
+        return group_operations::call(a, out);
     }
     camera_operations::call(a, b, c, out)
 }

@@ -1,7 +1,8 @@
 // Replays answers recorded from Rust. For each operation the program writes how many of its records the
-// crates `number`, `matrix`, `verdict` and `camera` agree with, and how many it read.
+// crates `number`, `matrix`, `verdict`, `camera` and `group` agree with, and how many it read.
 mod calls;
 mod camera_operations;
+mod group_operations;
 mod matrix_operations;
 mod number_operations;
 mod record;
@@ -83,6 +84,10 @@ fn print_camera_counts(agreed: &[u64; 256], read: &[u64; 256]) {
     print_count(b"camera_set_from_view_and_projection", 223, agreed, read);
 }
 
+fn print_group_counts(agreed: &[u64; 256], read: &[u64; 256]) {
+    print_count(b"bbox_combine_group", 224, agreed, read);
+}
+
 fn main() {
     let mut agreed = [0u64; 256];
     let mut read = [0u64; 256];
@@ -96,4 +101,5 @@ fn main() {
     print_projection_counts(&agreed, &read);
     print_verdict_counts(&agreed, &read);
     print_camera_counts(&agreed, &read);
+    print_group_counts(&agreed, &read);
 }

@@ -31,8 +31,15 @@ fn read_numbers(numbers: &mut [f64; 80]) -> usize {
 }
 
 // Whether the call of a trial answers as it must.
-fn passes(trial: usize, code: u64, given: &[f64; 80], status: u64, answer: &[f64; 80]) -> bool {
-    let right = lengths(code);
+fn passes(
+    trial: usize,
+    code: u64,
+    count: usize,
+    given: &[f64; 80],
+    status: u64,
+    answer: &[f64; 80],
+) -> bool {
+    let right = lengths(code, count);
     let lengths = tried(right, trial);
     let room = lengths[4] as usize;
     if 80 < room {
@@ -44,18 +51,18 @@ fn passes(trial: usize, code: u64, given: &[f64; 80], status: u64, answer: &[f64
 }
 
 // The ten trials of wrong lengths, and the call as it was recorded.
-fn passes_all(code: u64, given: &[f64; 80], status: u64, answer: &[f64; 80]) -> bool {
-    passes(0, code, given, status, answer)
-        && passes(1, code, given, status, answer)
-        && passes(2, code, given, status, answer)
-        && passes(3, code, given, status, answer)
-        && passes(4, code, given, status, answer)
-        && passes(5, code, given, status, answer)
-        && passes(6, code, given, status, answer)
-        && passes(7, code, given, status, answer)
-        && passes(8, code, given, status, answer)
-        && passes(9, code, given, status, answer)
-        && passes(10, code, given, status, answer)
+fn passes_all(code: u64, count: usize, given: &[f64; 80], status: u64, answer: &[f64; 80]) -> bool {
+    passes(0, code, count, given, status, answer)
+        && passes(1, code, count, given, status, answer)
+        && passes(2, code, count, given, status, answer)
+        && passes(3, code, count, given, status, answer)
+        && passes(4, code, count, given, status, answer)
+        && passes(5, code, count, given, status, answer)
+        && passes(6, code, count, given, status, answer)
+        && passes(7, code, count, given, status, answer)
+        && passes(8, code, count, given, status, answer)
+        && passes(9, code, count, given, status, answer)
+        && passes(10, code, count, given, status, answer)
 }
 
 // Reads a record after its code, and compares.
@@ -65,10 +72,10 @@ fn next_agrees(code: u64) -> bool {
     let count = read_numbers(&mut given);
     let status = read_word();
     read_numbers(&mut answer);
-    if count != total(lengths(code)) {
+    if count != total(lengths(code, count)) {
         return false;
     }
-    passes_all(code, &given, status, &answer)
+    passes_all(code, count, &given, status, &answer)
 }
 
 fn print_difference(place: u64) {

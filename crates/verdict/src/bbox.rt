@@ -22,7 +22,7 @@ pub struct BBox3d {
 }
 
 // The determinant at or under which a matrix is taken to have no inverse.
-const PRECISION_LIMIT: f64 = 1e-13;
+pub const PRECISION_LIMIT: f64 = 1e-13;
 
 // Whether a number is one of a flag's: a zero of either sign, or 1.
 pub fn is_flag(x: f64) -> bool
@@ -35,7 +35,7 @@ pub fn is_flag(x: f64) -> bool
 }
 
 // Whether the first of two volumes is taken: volumes this close count as equal.
-fn preferred(v: f64, w: f64) -> bool
+pub fn preferred(v: f64, w: f64) -> bool
     ensures { λ r. ⌜ r ≡ preferred v w ⌝ }
 {
     let tolerance = order::max(1e-6 * order::abs(order::max(v, w)), 1e-10);
@@ -55,7 +55,7 @@ fn flag_number(b: bool) -> f64
     0.0
 }
 
-fn either(a: bool, b: bool) -> bool
+pub fn either(a: bool, b: bool) -> bool
     ensures { λ r. ⌜ r ≡ (a || b) ⌝ }
 {
     if a {
@@ -118,7 +118,7 @@ impl BBox3d {
     }
 
     // Grown to hold another box, which the inverse of its own matrix projects into its space.
-    fn extended_by(self, other: BBox3d, inverse: Mat4d) -> BBox3d
+    pub fn extended_by(self, other: BBox3d, inverse: Mat4d) -> BBox3d
         ensures { λ r. ⌜ r ≡ extended self other inverse ⌝ }
     {
         let matrix = self.matrix;
@@ -141,7 +141,7 @@ impl BBox3d {
     }
 
     // Two boxes whose matrices have no inverse, as their aligned ranges.
-    fn aligned_with(self, other: BBox3d) -> BBox3d
+    pub fn aligned_with(self, other: BBox3d) -> BBox3d
         ensures { λ r. ⌜ r ≡ aligned self other ⌝ }
     {
         BBox3d {

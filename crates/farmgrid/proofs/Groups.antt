@@ -1,0 +1,56 @@
+-- The operation on groups, of records one behind another that have their lengths and flags: it is not refused, and writes the group's box. Assumes nothing.
+use mathlib.Core.Path.{_≡_, refl, ap, _∙_}
+use mathlib.Core.Bool.{true, _&&_}
+use mathlib.Core.List.{List, [], _∷_}
+use Prim.Native.Nat.{ℕ, _*_, _%_, _≤_}
+use native.Mathlib.Omega.{arith}
+use borrow.Author.Tests.{eq-eqb, lt-ltb, le-leb}
+use lib.ListN.{length, length-append}
+use lib.Seq.{take-at, drop-at}
+use lib.Ieee.{Float}
+use Rattle.number.specs.Answer.{write}
+use Rattle.number.proofs.Refusals.{has-yes}
+use Rattle.group.specs.Group.{boxLength, mostBoxes, records, countOf, recordsOf, grouped, isGroup, isWhole, allFlagged, groupCall}
+use Rattle.group.proofs.Repeated.{AllGood}
+use Rattle.farmgrid.specs.Grouping.{joined}
+
+joined-length : (ss : List (List Float)) → AllGood ss → length (joined ss) ≡ length ss * boxLength
+joined-length [] g = refl
+joined-length (s ∷ ss) g =
+    let e = length-append s (joined ss) in
+    let f = joined-length ss (g .1) in
+    let l = g .0 .numbers in
+    omega arith
+
+-- they are its records
+records-joined : (ss : List (List Float)) → AllGood ss → records (length ss) (joined ss) ≡ ss
+unfolding records
+records-joined [] g = refl
+records-joined (s ∷ ss) g =
+    let l = g .0 .numbers in
+    (λ i. take-at s (joined ss) boxLength l i ∷ records (length ss) (drop-at s (joined ss) boxLength l i))
+    ∙ ap (λ (ts : List (List Float)). s ∷ ts) (records-joined ss (g .1))
+
+all-flagged : (ss : List (List Float)) → AllGood ss → allFlagged ss ≡ true
+unfolding allFlagged
+all-flagged [] g = refl
+all-flagged (s ∷ ss) g = λ i. g .0 .flag i && all-flagged ss (g .1) i
+
+module _ (ss : List (List Float)) (g : AllGood ss) (some : 1 ≤ length ss) (most : length ss ≤ mostBoxes) where
+  size : length (joined ss) ≡ length ss * boxLength
+  size = joined-length ss g
+
+  records-are : recordsOf (joined ss) ≡ ss
+  records-are =
+      let e : countOf (joined ss) ≡ length ss = omega (arith, size) in
+      ap (λ (n : ℕ). records n (joined ss)) e ∙ records-joined ss g
+
+  group : isGroup (joined ss) ≡ true
+  group i = lt-ltb 0 (length (joined ss)) (omega (arith, size)) i && le-leb (length (joined ss)) (mostBoxes * boxLength) (omega (arith, size)) i
+
+  whole : isWhole (joined ss) ≡ true
+  whole = eq-eqb (length (joined ss) % boxLength) 0 (omega (arith, size))
+
+  pub group-writes : (out : List Float) → length out ≡ boxLength → groupCall (joined ss) out ≡ write (grouped ss)
+  unfolding groupCall
+  group-writes out room = rw (group, whole, has-yes boxLength out room, records-are, all-flagged ss g)

@@ -1,0 +1,65 @@
+-- Groups of boxes, "blocks grouped by orchard" of paper 02: several box records in one slice, combined into one box. Definitions only.
+use Prim.Native.Nat.{ℕ, zero, suc, _*_, _/_, _%_}
+use mathlib.Core.Bool.{Bool, true, _&&_}
+use mathlib.Core.List.{List, [], _∷_}
+use lib.Dec.{eqb, ltb, leb}
+use lib.ListN.{length, take, drop}
+use lib.Ieee.{Float}
+use Rattle.number.specs.Answer.{Reply, refuse, write, unless, has}
+use Rattle.verdict.specs.BBox.{numbers, boxOf, combined}
+use Rattle.verdict.specs.BBoxCalls.{flagged}
+use Rattle.verdict.specs.declared.bbox.BBox3d.{BBox3d}
+
+-- ---- its records: "A group is a slice of 1 to 256 box records"
+
+-- how many numbers a box record has, and how many records a group has at most
+abbrev pub boxLength : ℕ
+boxLength = 23
+
+abbrev pub mostBoxes : ℕ
+mostBoxes = 256
+
+-- n records of a slice, from its first number on
+unfoldable pub records : ℕ → List Float → List (List Float)
+records zero s = []
+records (suc n) s = take boxLength s ∷ records n (drop boxLength s)
+
+abbrev pub countOf : List Float → ℕ
+countOf s = length s / boxLength
+
+abbrev pub recordsOf : List Float → List (List Float)
+recordsOf s = records (countOf s) s
+
+-- ---- its box
+
+-- "combined left to right": the box b, and then the box of each record in turn
+unfoldable pub combinedWith : BBox3d → List (List Float) → BBox3d
+combinedWith b [] = b
+combinedWith b (s ∷ ss) = combinedWith (combined b (boxOf s)) ss
+
+-- The record of the group's box. "A single box comes back as it is." A group has at least one.
+unfoldable pub grouped : List (List Float) → List Float
+unfolding combinedWith
+grouped [] = []
+grouped (s ∷ []) = s
+grouped (s ∷ t ∷ ts) = numbers (combinedWith (boxOf s) (t ∷ ts))
+
+-- ---- what the operation answers and leaves: "11 for an empty slice or more than 5,888 numbers, then 1 if its length is not whole boxes, then 2 and 3"
+
+abbrev pub isGroup : List Float → Bool
+isGroup s = ltb 0 (length s) && leb (length s) (mostBoxes * boxLength)
+
+abbrev pub isWhole : List Float → Bool
+isWhole s = eqb (length s % boxLength) 0
+
+unfoldable pub allFlagged : List (List Float) → Bool
+allFlagged [] = true
+allFlagged (s ∷ ss) = flagged s && allFlagged ss
+
+unfoldable pub groupCall : List Float → List Float → Reply
+unfolding records allFlagged grouped
+groupCall s out =
+    unless (isGroup s) (refuse 11 out)
+    (unless (isWhole s) (refuse 1 out)
+    (unless (has boxLength out) (refuse 2 out)
+    (unless (allFlagged (recordsOf s)) (refuse 3 out) (write (grouped (recordsOf s))))))

@@ -1,0 +1,3 @@
+// Groups of boxes: several box records in one slice, combined into one box.
+pub mod group;
+pub mod group_calls;
