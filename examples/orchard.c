@@ -3,13 +3,26 @@
 #include <stdio.h>
 #include <string.h>
 
-/* The view, in centimetres: x from 0 to 4000, y from 0 to 3000, z from 0 to 600. Six planes that face into it; the four rays,
- * which the triangle verdict alone reads, stay zero. */
-static const double view[48] = {
+/* The view, in centimetres: x from 0 to 4000, y from 0 to 3000, z from 0 to 600. How many planes there are, six planes that face
+ * into it; the four rays, which the triangle verdict alone reads, stay zero. */
+static const double view[49] = {
+    6,
     1, 0, 0, 0, -1, 0, 0, -4000,
     0, 1, 0, 0, 0, -1, 0, -3000,
     0, 0, 1, 0, 0, 0, -1, -600,
 };
+
+/* The same view past a shed, which hides what lies beyond y = 1600: a seventh plane. */
+static const double past_shed[53] = {
+    7,
+    1, 0, 0, 0, -1, 0, 0, -4000,
+    0, 1, 0, 0, 0, -1, 0, -3000,
+    0, 0, 1, 0, 0, 0, -1, -600,
+    0, -1, 0, -1600,
+};
+
+/* A count of planes that is not whole. */
+static const double miscounted[49] = {6.5};
 
 /* Two blocks: least corner, greatest corner, the matrix that places them, row by row, and the zero-area flag. The second is
  * turned by a quarter and moved, so that it stands from 4000, 2000, 0 to 4600, 2800, 250. */
@@ -73,12 +86,16 @@ int main(void)
 
     status = gf_grid(survey, 3, tree, 3);
     print_numbers("tree in centimetres", status, tree, 3);
-    status = gf_intersects_segment(view, 48, mast, 3, tree, 3, &yes);
+    status = gf_intersects_segment(view, 49, mast, 3, tree, 3, &yes);
     print_verdict("line from the mast to the tree in view", status, yes);
+    status = gf_intersects_segment(past_shed, 53, mast, 3, tree, 3, &yes);
+    print_verdict("the same past a shed", status, yes);
+    status = gf_intersects_segment(miscounted, 49, mast, 3, tree, 3, &yes);
+    print_verdict("the same by six and a half planes", status, yes);
 
-    status = gf_intersects_bbox(view, 48, south, 23, &yes);
+    status = gf_intersects_bbox(view, 49, south, 23, &yes);
     print_verdict("south block in view", status, yes);
-    status = gf_intersects_bbox(view, 48, north, 23, &yes);
+    status = gf_intersects_bbox(view, 49, north, 23, &yes);
     print_verdict("north block, which touches, in view", status, yes);
 
     status = gf_bbox_combine(south, 23, north, 23, both, 23);

@@ -92,10 +92,17 @@ fn print_numbers<const N: usize>(what: &str, numbers: Result<[f64; N], u32>) {
 }
 
 fn main() -> Result<(), u32> {
-    // x from 0 to 4000, y from 0 to 3000, z from 0 to 600 centimetres; the four rays stay zero.
-    let mut view = [0.0; 48];
-    view[..12].copy_from_slice(&[1.0, 0.0, 0.0, 0.0, -1.0, 0.0, 0.0, -4000.0, 0.0, 1.0, 0.0, 0.0]);
-    view[12..24].copy_from_slice(&[0.0, -1.0, 0.0, -3000.0, 0.0, 0.0, 1.0, 0.0, 0.0, 0.0, -1.0, -600.0]);
+    // A volume: how many planes it has, these, and four rays, which stay zero.
+    let volume = |planes: &[[f64; 4]]| [&[planes.len() as f64][..], planes.as_flattened(), &[0.0; 24]].concat();
+    // x from 0 to 4000, y from 0 to 3000, z from 0 to 600 centimetres.
+    let mut planes = vec![[1.0, 0.0, 0.0, 0.0], [-1.0, 0.0, 0.0, -4000.0], [0.0, 1.0, 0.0, 0.0]];
+    planes.extend([[0.0, -1.0, 0.0, -3000.0], [0.0, 0.0, 1.0, 0.0], [0.0, 0.0, -1.0, -600.0]]);
+    let view = volume(&planes);
+    // A shed hides what lies beyond y = 1600.
+    planes.push([0.0, -1.0, 0.0, -1600.0]);
+    let past_shed = volume(&planes);
+    let mut miscounted = view.clone();
+    miscounted[0] = 6.5;
     let rows = |m: [[f64; 4]; 4]| m.concat();
     let upright = rows([[1.0, 0.0, 0.0, 0.0], [0.0, 1.0, 0.0, 0.0], [0.0, 0.0, 1.0, 0.0], [0.0, 0.0, 0.0, 1.0]]);
     let turned = rows([[0.0, 1.0, 0.0, 0.0], [-1.0, 0.0, 0.0, 0.0], [0.0, 0.0, 1.0, 0.0], [4600.0, 2000.0, 0.0, 1.0]]);
@@ -104,7 +111,10 @@ fn main() -> Result<(), u32> {
 
     let tree = grid(&[12.34, 20.5, 1.6])?;
     print_numbers("tree in centimetres", Ok(tree));
-    print_verdict("line from the mast to the tree in view", segment_in_view(&view, &[-500.0, 1500.0, 550.0], &tree));
+    let mast = [-500.0, 1500.0, 550.0];
+    print_verdict("line from the mast to the tree in view", segment_in_view(&view, &mast, &tree));
+    print_verdict("the same past a shed", segment_in_view(&past_shed, &mast, &tree));
+    print_verdict("the same by six and a half planes", segment_in_view(&miscounted, &mast, &tree));
     print_verdict("south block in view", box_in_view(&view, &south));
     print_verdict("north block, which touches, in view", box_in_view(&view, &north));
     print_numbers("both blocks, least and greatest", combine(&south, &north).and_then(|both| aligned_range(&both)));

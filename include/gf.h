@@ -29,6 +29,7 @@
  *   9  a farm file is too short, or its directory does not say where its sections lie
  *   10 a section of a farm file is not as long as its record
  *   11 a group of boxes is empty, or has more numbers than 256 boxes
+ *   12 a volume's count of planes is not whole, or outside 6 to 32
  *
  * With status 0 all of `out` is written. Every refusal leaves `out` unchanged. Slices lent for reading are never written.
  * Where more than one refusal applies, the one that "Refuses" lists first is returned. A result of several numbers goes into a
@@ -52,8 +53,10 @@
  *   camera 24             the matrix that carries camera space into the world, kind (as a projection), focal length, horizontal
  *                         aperture, vertical aperture, horizontal offset, vertical offset, near, far
  *   box 23                range, the matrix that places it, zero-area flag (0 or 1)
- *   volume 48             six planes that face into the view: left, right, bottom, top, near, far; then four rays along the
- *                         edges of the view, from its near corners left bottom, left top, right top, right bottom
+ *   volume 25 + 4n        how many planes it has, n, a whole number from 6 to 32; n planes that face into the view, in front
+ *                         the original six, left, right, bottom, top, near, far, and behind them those of sheds and screens that
+ *                         cut it; then four rays along the edges of the view, from its near corners left bottom, left top,
+ *                         right top, right bottom. That is 49 numbers for six planes, 153 for 32
  *
  * Below, "In" gives the length of each slice lent for reading, "Out" what is written with status 0, and "Refuses" the
  * refusals that the function can give, in their order.
@@ -269,25 +272,27 @@ uint32_t gf_bbox_aligned_range(const double *b, size_t b_len, double *out, size_
  * In: b 23. Out: 3 numbers. Refuses: 1, 2, 3. */
 uint32_t gf_bbox_centroid(const double *b, size_t b_len, double *out, size_t out_len);
 
-/* ---- verdicts: the first four by the planes of a volume, where touching counts. docs/VERDICTS.md tells what they mean */
+/* ---- verdicts: the first four by the planes of a volume, where touching counts. docs/VERDICTS.md tells what they mean.
+ * What these four refuse, in order: 1 for a volume below 49 numbers or another input of the wrong length; 12 for a count that is
+ * not whole or outside 6 to 32, a NaN among them; 1 for a volume of another length than its count's; then 3, of a box */
 
 /* Whether the point is on the positive side of every plane. The rays are not read.
- * In: volume 48, p 3. Out: yes or no. Refuses: 1. */
+ * In: volume, p 3. Out: yes or no. Refuses: 1, 12, 1. */
 uint32_t gf_intersects_point(const double *volume, size_t volume_len, const double *p, size_t p_len, uint32_t *out);
 
-/* Whether any of the segment from p0 to p1, its ends included, is in view. The rays are not read.
- * In: volume 48, p0 3, p1 3. Out: yes or no. Refuses: 1. */
+/* Whether any of the segment from p0 to p1, its ends included, is on the positive side of every plane. The rays are not read.
+ * In: volume, p0 3, p1 3. Out: yes or no. Refuses: 1, 12, 1. */
 uint32_t gf_intersects_segment(const double *volume, size_t volume_len, const double *p0, size_t p0_len, const double *p1, size_t p1_len, uint32_t *out);
 
-/* Whether any of the triangle is in view: a corner, some of a side, or a place where a ray of the volume meets it. Only the
- * first ray is tried where all corners are on the positive side of the near and of the far plane.
- * In: volume 48, p0 3, p1 3, p2 3. Out: yes or no. Refuses: 1. */
+/* Whether any of the triangle is in view, by the original six planes alone: a corner, some of a side, or a place where a ray of
+ * the volume meets it. Only the first ray is tried where all corners are on the positive side of the near and of the far plane.
+ * In: volume, p0 3, p1 3, p2 3. Out: yes or no. Refuses: 1, 12, 1. */
 uint32_t gf_intersects_triangle(const double *volume, size_t volume_len, const double *p0, size_t p0_len, const double *p1, size_t p1_len, const double *p2, size_t p2_len, uint32_t *out);
 
 /* Whether the placed box is wholly behind no plane; a box near an edge or a corner of the view may count though it is just
  * outside. A box with an empty range is not in view. One whose matrix has no inverse, its determinant's size not above 1e-13,
  * is taken as if its matrix were the identity. The rays are not read. 3: the flag is neither 0, of either sign, nor 1.
- * In: volume 48, bbox 23. Out: yes or no. Refuses: 1, 3. */
+ * In: volume, bbox 23. Out: yes or no. Refuses: 1, 12, 1, 3. */
 uint32_t gf_intersects_bbox(const double *volume, size_t volume_len, const double *bbox, size_t bbox_len, uint32_t *out);
 
 /* Whether the box is in the clip volume of a matrix of view and projection: moved there, some corner has x below w and some

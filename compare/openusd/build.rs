@@ -31,10 +31,13 @@ fn main() {
 /// The file's text after the rules that concern it.
 fn assembled(file: &str, text: String) -> String {
     match file {
-        "mod" => LEFT_OUT.iter().fold(text, |text, module| without_module(&text, module)),
+        "mod" => {
+            let text = LEFT_OUT.iter().fold(text, |text, module| without_module(&text, module));
+            format!("{text}\npub use frustum::screens::Screens;\n")
+        }
         "plane" => with_open_fields(&text, "Plane"),
         "bbox" => with_open_fields(&text, "BBox3d"),
-        "frustum" => with_given_rays(&with_open_fields(&text, "FrustumPlanes")),
+        "frustum" => with_screens(&with_given_rays(&with_open_fields(&text, "FrustumPlanes"))),
         _ => text,
     }
 }
@@ -72,6 +75,27 @@ fn with_given_rays(text: &str) -> String {
         body.replace("self.frustum", "rays")
     );
     format!("{before}{method}{copy}{after}\nuse crate::PickRay as _;\n")
+}
+
+/// Adds copies of the verdicts on boxes, points and segments that ask a list
+/// of planes, as long as may be, where these ask their six.
+fn with_screens(text: &str) -> String {
+    let methods = ["bbox", "point", "segment"].map(|of| {
+        let start = format!("    pub fn intersects_{of}(");
+        let (_, method, _) = part(text, &start, "\n    }\n");
+        format!("{start}{method}\n    }}\n")
+    });
+    let functions = ["inside_mask", "segment_intersects"].map(|name| {
+        let start = format!("\nfn {name}(");
+        let (_, function, _) = part(text, &start, "\n}\n");
+        assert_eq!(function.matches("planes: &[Plane; 6]").count(), 1, "{name} takes six planes");
+        format!("{start}{}\n}}\n", function.replace("[Plane; 6]", "[Plane]"))
+    });
+    let functions = functions.concat().replace("ALL_PLANES", "u32::MAX >> (32 - planes.len())");
+    format!(
+        "{text}\npub mod screens {{\nuse super::*;\npub struct Screens<'a> {{ pub planes: &'a [Plane] }}\nimpl Screens<'_> {{\n{}}}\n{functions}}}\n",
+        methods.concat()
+    )
 }
 
 /// Splits `text` after its only `start` and before the next `end`.

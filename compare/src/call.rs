@@ -20,6 +20,13 @@ pub struct Exported {
     pub rust: Box<dyn Side>,
 }
 
+/// Inputs to be timed on, and against whom if not the call's own Rust.
+struct Set<I> {
+    name: &'static str,
+    drawn: Draw<I>,
+    against: Option<Box<dyn Side>>,
+}
+
 /// A call that reads lent slices, writes one or a lone result, and answers a
 /// refusal or 0.
 pub struct Call<I> {
@@ -27,7 +34,7 @@ pub struct Call<I> {
     agrees: fn(f64, f64) -> bool,
     fixed: Vec<I>,
     drawn: Draw<I>,
-    sets: Vec<(&'static str, Draw<I>)>,
+    sets: Vec<Set<I>>,
     timed_against: Option<Box<dyn Side>>,
     recorded: Option<fn() -> Vec<Words>>,
 }
@@ -54,7 +61,13 @@ impl<I: Input> Call<I> {
 
     /// A set of inputs to be timed on.
     pub fn timed(mut self, set: &'static str, drawn: Draw<I>) -> Self {
-        self.sets.push((set, drawn));
+        self.sets.push(Set { name: set, drawn, against: None });
+        self
+    }
+
+    /// One that is timed against the Rust of `other`.
+    pub fn timed_by<J>(mut self, set: &'static str, drawn: Draw<I>, other: Call<J>) -> Self {
+        self.sets.push(Set { name: set, drawn, against: Some(other.of.rust) });
         self
     }
 
@@ -95,12 +108,8 @@ impl<I: Input> Call<I> {
 
     /// The lengths of this case: one call in eight has wrong ones, where
     /// only one slice is one short or one long, or any slice has any length.
-    fn lengths(&self, case: u64, rng: &mut Rng) -> [usize; INPUTS + 1] {
-        let mut right = [0; INPUTS + 1];
-        for (len, shape) in right.iter_mut().zip(self.of.takes) {
-            *len = shape.len();
-        }
-        right[INPUTS] = self.of.gives.len();
+    fn lengths(&self, case: u64, input: &I, rng: &mut Rng) -> [usize; INPUTS + 1] {
+        let right = self.right_lengths(input);
         if case < self.fixed.len() as u64 || rng.below(8) != 0 {
             return right;
         }
@@ -115,6 +124,16 @@ impl<I: Input> Call<I> {
             slices().for_each(|i| len[i] = rng.below(right[i] as u64 + 3) as usize);
         }
         len
+    }
+
+    /// The lengths of an input's records, and of the result.
+    fn right_lengths(&self, input: &I) -> [usize; INPUTS + 1] {
+        let mut right = [0; INPUTS + 1];
+        for (len, record) in right.iter_mut().zip(input.records()) {
+            *len = record.len();
+        }
+        right[INPUTS] = self.of.gives.len();
+        right
     }
 
     /// Lays out the numbers of a case.
@@ -145,7 +164,7 @@ impl<I: Input> Call<I> {
     /// ours what was answered and what is left.
     fn make(&self, case: u64, mut rng: Rng) -> (Desk, [(u32, Desk); 2]) {
         let input = self.input(case, &mut rng);
-        let before = self.lay(input, self.lengths(case, &mut rng));
+        let before = self.lay(input, self.lengths(case, &input, &mut rng));
         let made = [Some(&self.of.rust), self.of.ours.as_ref()].map(|side| {
             let mut desk = before.clone();
             let status = desk.put_to(side.expect("exported").as_ref());
@@ -167,7 +186,7 @@ struct Desk {
 
 /// How many numbers are between a slice that is two too long and the next.
 const GUARD: usize = 2;
-const WORDS: usize = 104;
+const WORDS: usize = 224;
 
 /// What is on the desk beside the inputs, and before there is a result.
 const BESIDE: [u64; WORDS] = {
@@ -260,16 +279,16 @@ impl<I: Input> Timed for Call<I> {
         let Some(ours) = &self.of.ours else {
             return vec![];
         };
-        let rust = self.timed_against.as_ref().unwrap_or(&self.of.rust);
-        let timing = |&(set, draw): &(&'static str, Draw<I>)| {
-            let inputs = Timing::inputs(draw).iter();
+        let timing = |set: &'a Set<I>| {
+            let rust = set.against.as_ref().or(self.timed_against.as_ref()).unwrap_or(&self.of.rust);
+            let inputs = Timing::inputs(set.drawn).iter();
             let lent: &'static [Ins] =
                 inputs.map(|input| input.records().map(Lent::to_read)).collect::<Vec<_>>().leak();
             let pass = |side: &'a dyn Side| {
                 let mut out = vec![0.0; self.of.gives.len()];
                 move || side.pass(black_box(lent), Lent::to_write(&mut out))
             };
-            Timing { set, ours: Box::new(pass(ours.as_ref())), rust: Box::new(pass(rust.as_ref())) }
+            Timing { set: set.name, ours: Box::new(pass(ours.as_ref())), rust: Box::new(pass(rust.as_ref())) }
         };
         self.sets.iter().map(timing).collect()
     }
@@ -285,7 +304,7 @@ impl<I: Input> Op for Call<I> {
             return vectors();
         }
         let answered = |input: I| {
-            let mut desk = self.lay(input, self.lengths(0, &mut Rng::at(0, 0)));
+            let mut desk = self.lay(input, self.right_lengths(&input));
             let status = desk.put_to(self.of.rust.as_ref());
             (status, desk)
         };

@@ -17,10 +17,21 @@ macro_rules! of_archive {
     }};
 }
 
+/// The type of an input, by its length.
+macro_rules! taken {
+    (Volume) => {
+        $crate::inputs::Volume
+    };
+    ($n:literal) => {
+        [f64; $n]
+    };
+}
+
 /// A call, by its code in the recorded answers, its C name, its parameters
 /// and its result: `gf_x(slice: length, ..; number: type) -> result { reference }`.
 ///
-/// A lone number in is an `f64` or an `f32`. The result is `[f64; length]`
+/// A slice's length is a number, or `Volume` where its count tells it. A lone
+/// number in is an `f64` or an `f32`. The result is `[f64; length]`
 /// for a lent slice, `f64` for a lone number and `bool` for a yes or no. The
 /// reference sees slices of the right lengths, as arrays, and gives the result
 /// or the number of a refusal.
@@ -34,16 +45,16 @@ macro_rules! call {
     ($code:literal $name:ident($($parameters:tt)*) -> bool $body:block) => {
         call!(@ $code $name [$($parameters)*] bool $body out (*mut u32) (out.at.cast::<u32>()))
     };
-    (@ $code:literal $name:ident [$($in:ident: $n:literal),* $(; $number:ident: $lone:ty)?] $answer:ty $body:block
+    (@ $code:literal $name:ident [$($in:ident: $n:tt),* $(; $number:ident: $lone:ty)?] $answer:ty $body:block
         $out:ident ($($c_type:ty),*) ($($c_argument:expr),*)) => {{
         use $crate::call::{Call, Exported};
-        use $crate::lent::{Answer, Ins, Lent, Pointer, Shape, Side};
+        use $crate::lent::{Answer, Ins, Lent, Pointer, Side};
 
         type Ours = unsafe extern "C" fn($($in: *const f64, _: usize,)* $($number: $lone,)? $($c_type),*) -> u32;
         type Rust = fn($($in: &[f64],)* $($number: $lone,)? &mut <$answer as Answer>::Lent) -> u32;
 
         fn rust($($in: &[f64],)* $($number: $lone,)? out: &mut <$answer as Answer>::Lent) -> u32 {
-            $(let Ok($in) = <&[f64; $n]>::try_from($in) else {
+            $(let Some($in) = <$crate::exported::taken!($n) as $crate::lent::Taken>::seen($in) else {
                 return $crate::judge::WRONG_INPUT;
             };)*
             if !<$answer as Answer>::fits(out) {
@@ -72,10 +83,10 @@ macro_rules! call {
             let [$($in,)* $($number,)? ..] = *ins;
             f($($in.slice(),)* $(<$lone as $crate::lent::Lone>::passed($number),)? <$answer as Answer>::lent(out))
         }));
-        Call::<($([f64; $n],)* $(<$lone as $crate::lent::Lone>::Input,)?)>::new(Exported {
+        Call::<($($crate::exported::taken!($n),)* $(<$lone as $crate::lent::Lone>::Input,)?)>::new(Exported {
             name: stringify!($name),
             code: $code,
-            takes: &[$(Shape::Slice($n),)* $(<$lone as $crate::lent::Lone>::SHAPE,)?],
+            takes: &[$(<$crate::exported::taken!($n) as $crate::lent::Taken>::SHAPE,)* $(<$lone as $crate::lent::Lone>::SHAPE,)?],
             gives: <$answer as Answer>::SHAPE,
             ours,
             rust,
@@ -83,4 +94,4 @@ macro_rules! call {
     }};
 }
 
-pub(crate) use {call, of_archive};
+pub(crate) use {call, of_archive, taken};

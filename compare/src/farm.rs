@@ -211,13 +211,17 @@ impl Timed for FarmFiles {
         let Some(ours) = &self.ours else {
             return vec![];
         };
-        let timing = |set, placement: fn(&mut Rng) -> Matrix| {
-            let drawn = (0..TIMED as u64).map(|i| inputs::full_file(&mut Rng::at(1, i), placement).bytes);
+        let timing = |set, planes, placement: fn(&mut Rng) -> Matrix| {
+            let drawn = (0..TIMED as u64).map(|i| inputs::full_file(&mut Rng::at(1, i), planes, placement).bytes);
             let files: &'static [Vec<u8>] = drawn.collect::<Vec<_>>().leak();
             let pass = |reader| Box::new(move || all(reader, files));
             Timing { set, ours: pass(ours), rust: pass(&self.judge) }
         };
-        vec![timing("63 rigid boxes", inputs::rigid_placement), timing("63 scaled boxes", inputs::placement)]
+        vec![
+            timing("63 rigid boxes", inputs::FEWEST, inputs::rigid_placement),
+            timing("63 scaled boxes", inputs::FEWEST, inputs::placement),
+            timing("32 planes, 63 rigid boxes", inputs::MOST, inputs::rigid_placement),
+        ]
     }
 }
 

@@ -2,7 +2,7 @@
 //! combining. The Rust is judged as the archive is.
 
 use crate::exact;
-use crate::inputs::{self, FarmBox, Rng, Turn, Whole, WholePlane, farm_volume, floats, on_grid};
+use crate::inputs::{self, FarmBox, Rng, Turn, Whole, WholePlane, among_others, farm_volume, floats, on_grid};
 use crate::lent::{Lent, Side};
 use crate::op::Op;
 use crate::trial::{Outcome, Trial};
@@ -115,94 +115,101 @@ fn outcome(verdict: bool) -> usize {
 }
 
 fn points(engines: &[Engine], _: u64, rng: &mut Rng) -> Result<usize, String> {
-    let (planes, p) = inputs::farm_point(rng);
+    let (six, p) = inputs::farm_point(rng);
+    let planes = among_others(rng, &six);
     let exact = exact::point(&planes, p);
     for engine in engines {
-        let verdict = engine.verdict(Ask::Point, &[&farm_volume(&planes), &floats(p)])?;
-        engine.expect("a point", verdict, exact, &(planes, p))?;
+        let verdict = engine.verdict(Ask::Point, &[farm_volume(&planes).numbers(), &floats(p)])?;
+        engine.expect("a point", verdict, exact, &(&planes, p))?;
     }
     Ok(outcome(exact))
 }
 
 fn segments(engines: &[Engine], _: u64, rng: &mut Rng) -> Result<usize, String> {
-    let (planes, a, b) = inputs::farm_segment(rng);
+    let (six, a, b) = inputs::farm_segment(rng);
+    let planes = among_others(rng, &six);
     let exact = exact::segment(&planes, a, b);
     for engine in engines {
-        let verdict = engine.verdict(Ask::Segment, &[&farm_volume(&planes), &floats(a), &floats(b)])?;
-        engine.expect("a segment", verdict, exact, &(planes, a, b))?;
+        let verdict = engine.verdict(Ask::Segment, &[farm_volume(&planes).numbers(), &floats(a), &floats(b)])?;
+        engine.expect("a segment", verdict, exact, &(&planes, a, b))?;
     }
     Ok(outcome(exact))
 }
 
 fn boxes(engines: &[Engine], _: u64, rng: &mut Rng) -> Result<usize, String> {
     let (planes, given) = loop {
-        let drawn = inputs::farm_box_view(rng);
-        if exact::share_a_point(&drawn.0) {
-            break drawn;
+        let (six, given) = inputs::farm_box_view(rng);
+        let planes = among_others(rng, &six);
+        if exact::share_a_point(&planes) {
+            break (planes, given);
         }
     };
     let exact = exact::placed_box(&planes, given.placed());
     for engine in engines {
-        let verdict = engine.verdict(Ask::Box, &[&farm_volume(&planes), &given.record()])?;
-        engine.expect("a box", verdict, exact, &(planes, given))?;
+        let verdict = engine.verdict(Ask::Box, &[farm_volume(&planes).numbers(), &given.record()])?;
+        engine.expect("a box", verdict, exact, &(&planes, given))?;
     }
     Ok(outcome(exact))
 }
 
 /// Planes under a turn, where they stay within the limits.
-fn turned(planes: &[WholePlane; 6], turn: &Turn) -> [WholePlane; 6] {
-    planes.map(|plane| turn.plane(&plane))
+fn turned(planes: &[WholePlane], turn: &Turn) -> Vec<WholePlane> {
+    planes.iter().map(|plane| turn.plane(plane)).collect()
 }
 
-fn turn_of(rng: &mut Rng, case: u64, planes: &[WholePlane; 6], holds: impl Fn(&Turn) -> bool) -> Turn {
+fn turn_of(rng: &mut Rng, case: u64, planes: &[WholePlane], holds: impl Fn(&Turn) -> bool) -> Turn {
     inputs::turn_within(rng, case, |turn| turned(planes, turn).iter().all(WholePlane::within_limits) && holds(turn))
 }
 
 fn turned_points(engines: &[Engine], case: u64, rng: &mut Rng) -> Result<usize, String> {
-    let (planes, p) = inputs::farm_point(rng);
+    let (six, p) = inputs::farm_point(rng);
+    let planes = among_others(rng, &six);
     let turn = turn_of(rng, case, &planes, |turn| on_grid(turn.point(p)));
     let before = exact::point(&planes, p);
     for engine in engines {
-        let verdict = engine.verdict(Ask::Point, &[&farm_volume(&planes), &floats(p)])?;
-        engine.expect("a point", verdict, before, &(planes, p))?;
+        let verdict = engine.verdict(Ask::Point, &[farm_volume(&planes).numbers(), &floats(p)])?;
+        engine.expect("a point", verdict, before, &(&planes, p))?;
         let moved = engine.moved(&turn, p)?;
-        let after = engine.verdict(Ask::Point, &[&farm_volume(&turned(&planes, &turn)), &moved])?;
-        engine.expect("a point turned with its planes", after, before, &(planes, p, turn))?;
+        let after = engine.verdict(Ask::Point, &[farm_volume(&turned(&planes, &turn)).numbers(), &moved])?;
+        engine.expect("a point turned with its planes", after, before, &(&planes, p, turn))?;
     }
     Ok(outcome(before))
 }
 
 fn turned_segments(engines: &[Engine], case: u64, rng: &mut Rng) -> Result<usize, String> {
-    let (planes, a, b) = inputs::farm_segment(rng);
+    let (six, a, b) = inputs::farm_segment(rng);
+    let planes = among_others(rng, &six);
     let turn = turn_of(rng, case, &planes, |turn| on_grid(turn.point(a)) && on_grid(turn.point(b)));
     let before = exact::segment(&planes, a, b);
     for engine in engines {
-        let verdict = engine.verdict(Ask::Segment, &[&farm_volume(&planes), &floats(a), &floats(b)])?;
-        engine.expect("a segment", verdict, before, &(planes, a, b))?;
+        let verdict = engine.verdict(Ask::Segment, &[farm_volume(&planes).numbers(), &floats(a), &floats(b)])?;
+        engine.expect("a segment", verdict, before, &(&planes, a, b))?;
         let ends = [engine.moved(&turn, a)?, engine.moved(&turn, b)?];
-        let after = engine.verdict(Ask::Segment, &[&farm_volume(&turned(&planes, &turn)), &ends[0], &ends[1]])?;
-        engine.expect("a segment turned with its planes", after, before, &(planes, a, b, turn))?;
+        let after =
+            engine.verdict(Ask::Segment, &[farm_volume(&turned(&planes, &turn)).numbers(), &ends[0], &ends[1]])?;
+        engine.expect("a segment turned with its planes", after, before, &(&planes, a, b, turn))?;
     }
     Ok(outcome(before))
 }
 
 fn turned_boxes(engines: &[Engine], case: u64, rng: &mut Rng) -> Result<usize, String> {
-    let (planes, given) = inputs::farm_box_view(rng);
+    let (six, given) = inputs::farm_box_view(rng);
+    let planes = among_others(rng, &six);
     let after = |turn: &Turn| FarmBox { placement: given.placement.then(turn), ..given };
     let turn = turn_of(rng, case, &planes, |turn| after(turn).within_limits());
     let mut kind = 0;
     for engine in engines {
         // The planes need not share a point for this.
-        let before = engine.verdict(Ask::Box, &[&farm_volume(&planes), &given.record()])?;
+        let before = engine.verdict(Ask::Box, &[farm_volume(&planes).numbers(), &given.record()])?;
         if exact::share_a_point(&planes) {
-            engine.expect("a box", before, exact::placed_box(&planes, given.placed()), &(planes, given))?;
+            engine.expect("a box", before, exact::placed_box(&planes, given.placed()), &(&planes, given))?;
         }
         let placement: [f64; 16] = engine.numbers(Ask::Product, &[&given.placement.matrix(), &turn.matrix()])?;
         engine.expect("a placement turned", placement, after(&turn).placement.matrix(), &(given, turn))?;
         let mut moved = given.record();
         moved[6..22].copy_from_slice(&placement);
-        let verdict = engine.verdict(Ask::Box, &[&farm_volume(&turned(&planes, &turn)), &moved])?;
-        engine.expect("a box turned with its planes", verdict, before, &(planes, given, turn))?;
+        let verdict = engine.verdict(Ask::Box, &[farm_volume(&turned(&planes, &turn)).numbers(), &moved])?;
+        engine.expect("a box turned with its planes", verdict, before, &(&planes, given, turn))?;
         kind = outcome(before);
     }
     Ok(kind)
@@ -262,16 +269,17 @@ fn grouped(engines: &[Engine], _: u64, rng: &mut Rng) -> Result<usize, String> {
 
 /// A group that is out of a view has no member in it.
 fn members(engines: &[Engine], _: u64, rng: &mut Rng) -> Result<usize, String> {
-    let (planes, list) = inputs::farm_group_view(rng, LIST);
+    let (six, list) = inputs::farm_group_view(rng, LIST);
+    let planes = among_others(rng, &six);
     let volume = farm_volume(&planes);
     let records: Vec<[f64; 23]> = list.iter().map(FarmBox::record).collect();
     let mut kind = 0;
     for engine in engines {
         let group: [f64; 23] = engine.numbers(Ask::Group, &[records.as_flattened()])?;
-        let verdict = engine.verdict(Ask::Box, &[&volume, &group])?;
+        let verdict = engine.verdict(Ask::Box, &[volume.numbers(), &group])?;
         for record in &records {
-            let member = engine.verdict(Ask::Box, &[&volume, record])?;
-            engine.expect("a member of a group that is out", member && !verdict, false, &(planes, &list))?;
+            let member = engine.verdict(Ask::Box, &[volume.numbers(), record])?;
+            engine.expect("a member of a group that is out", member && !verdict, false, &(&planes, &list))?;
         }
         kind = outcome(verdict);
     }

@@ -27,6 +27,9 @@ pub const WRONG_SECTION: u32 = 10;
 /// Paper 02's: an empty group, or one of more numbers than 256 boxes have.
 pub const GROUP_SIZE: u32 = 11;
 
+/// A count of planes that is not whole, or not from 6 to 32.
+pub const NO_COUNT: u32 = 12;
+
 /// Paper 01's rule: equal bits, both NaN, or both zero.
 pub fn matches(judge: f64, ours: f64) -> bool {
     judge.to_bits() == ours.to_bits() || (judge.is_nan() && ours.is_nan()) || (judge == 0.0 && ours == 0.0)

@@ -1,5 +1,6 @@
 //! What a call is lent, and its two sides.
 
+use crate::inputs::{FEWEST, Volume, volume_length};
 use std::hint::black_box;
 use std::{ptr, slice};
 
@@ -45,6 +46,35 @@ impl Lent {
 
     pub unsafe fn slice<'a>(self) -> &'a [f64] {
         unsafe { slice::from_raw_parts(self.at, self.len) }
+    }
+}
+
+/// An input that is lent as a slice, and what a reference sees of it.
+pub trait Taken: Record {
+    type Seen: ?Sized;
+    const SHAPE: Shape;
+
+    /// Nothing where its length is wrong.
+    fn seen(lent: &[f64]) -> Option<&Self::Seen>;
+}
+
+impl<const N: usize> Taken for [f64; N] {
+    type Seen = [f64; N];
+    const SHAPE: Shape = Shape::Slice(N);
+
+    fn seen(lent: &[f64]) -> Option<&[f64; N]> {
+        lent.try_into().ok()
+    }
+}
+
+/// A reference tells by the count whether a length from that of the fewest
+/// planes on is right.
+impl Taken for Volume {
+    type Seen = [f64];
+    const SHAPE: Shape = Shape::Slice(volume_length(FEWEST));
+
+    fn seen(lent: &[f64]) -> Option<&[f64]> {
+        (lent.len() >= volume_length(FEWEST)).then_some(lent)
     }
 }
 
@@ -183,6 +213,12 @@ pub trait Record: Copy + Send + Sync + 'static {
 impl<const N: usize> Record for [f64; N] {
     fn numbers(&self) -> &[f64] {
         self
+    }
+}
+
+impl Record for Volume {
+    fn numbers(&self) -> &[f64] {
+        self.numbers()
     }
 }
 

@@ -2,13 +2,20 @@
 //! each box: the judge of `gf_farm_file` and of the program.
 
 use crate::judge::{NO_FARM_FILE, NO_SUCH_VALUE, WRONG_INPUT, WRONG_OUTPUT, WRONG_SECTION};
-use crate::rust::{boxed, planes};
+use crate::rust::{ask, boxed, counted};
+use openusd::gf::BBox3d;
 
 /// How many bytes a farm file has at most.
 pub const LARGEST: usize = 65_536;
 
-/// The bytes of the volume's record, and of a box's.
-pub const VOLUME: usize = 8 * 48;
+/// The bytes of the record of a volume with so many planes: their count, the
+/// planes, four rays.
+pub const fn volume_bytes(planes: usize) -> usize {
+    8 * (1 + 4 * planes + 4 * 6)
+}
+
+/// The bytes of the least record of a volume, and of a box's.
+pub const LEAST_VOLUME: usize = 8 * 49;
 pub const BOX: usize = 8 * 23;
 
 /// How many sections a farm file has at least and at most, the volume's
@@ -56,19 +63,44 @@ fn record<const N: usize>(file: &[u8], pair: &[u8; 8]) -> [f64; N] {
     words.first_chunk::<N>().expect("the section is as long").map(f64::from_le_bytes)
 }
 
-/// The sections of the volume and the boxes, or the number of the first check
-/// that fails; each is made over the whole file before the next.
-fn checked(file: &[u8]) -> Result<(&[u8; 8], Directory<'_>), u32> {
+/// How many planes the volume has, its section and those of the boxes, or the
+/// number of the first check that fails; each is made over the whole file
+/// before the next.
+fn checked(file: &[u8]) -> Result<(usize, &[u8; 8], Directory<'_>), u32> {
     let (volume, boxes) = directory(file).and_then(|pairs| pairs.split_first()).ok_or(NO_FARM_FILE)?;
+    if section(volume).1 < LEAST_VOLUME as u64 {
+        return Err(WRONG_SECTION);
+    }
+    let [count] = record(file, volume);
+    let planes = counted(count)?;
     let holds = |pair: &[u8; 8], length: usize| section(pair).1 == length as u64;
-    if !holds(volume, VOLUME) || !boxes.iter().all(|pair| holds(pair, BOX)) {
+    if !holds(volume, volume_bytes(planes)) || !boxes.iter().all(|pair| holds(pair, BOX)) {
         return Err(WRONG_SECTION);
     }
     let flag = |pair: &[u8; 8]| record::<23>(file, pair)[22];
     if !boxes.iter().all(|pair| matches!(flag(pair), 0.0 | 1.0)) {
         return Err(NO_SUCH_VALUE);
     }
-    Ok((volume, boxes))
+    Ok((planes, volume, boxes))
+}
+
+/// The count and the planes of a volume, and zeros behind them.
+fn volume_of(file: &[u8], pair: &[u8; 8], planes: usize) -> [f64; 1 + 4 * 32] {
+    let mut numbers = [0.0; 1 + 4 * 32];
+    let words = file[section(pair).0 as usize..].as_chunks().0;
+    for (to, word) in numbers.iter_mut().zip(&words[..1 + 4 * planes]) {
+        *to = f64::from_le_bytes(*word);
+    }
+    numbers
+}
+
+/// The verdict on each box in its slot, and what fills the others.
+fn verdicts(file: &[u8], boxes: Directory<'_>, sees: impl Fn(&BBox3d) -> bool) -> [u32; BOXES] {
+    let mut slots = [NONE; BOXES];
+    for (slot, pair) in slots.iter_mut().zip(boxes) {
+        *slot = sees(&boxed(&record(file, pair)).expect("its flag is 0 or 1")).into();
+    }
+    slots
 }
 
 /// `gf_farm_file`: the verdict on each box in its slot and how many there
@@ -80,15 +112,17 @@ pub fn farm_file(file: &[u8], out: &mut [u32], count: &mut u32) -> u32 {
     if out.len() != BOXES {
         return WRONG_OUTPUT;
     }
-    let (volume, boxes) = match checked(file) {
+    let (planes, volume, boxes) = match checked(file) {
         Ok(sections) => sections,
         Err(refusal) => return refusal,
     };
-    let view = planes(&record(file, volume));
-    for (slot, pair) in out.iter_mut().zip(boxes) {
-        *slot = view.intersects_bbox(&boxed(&record(file, pair)).expect("its flag is 0 or 1")).into();
-    }
-    out[boxes.len()..].fill(NONE);
+    let slots = ask(
+        &volume_of(file, volume, planes),
+        planes,
+        |six| verdicts(file, boxes, |b| six.intersects_bbox(b)),
+        |screens| verdicts(file, boxes, |b| screens.intersects_bbox(b)),
+    );
+    out.copy_from_slice(&slots);
     *count = boxes.len() as u32;
     0
 }
@@ -112,16 +146,37 @@ mod tests {
     /// The paper's smallest file: the volume and a box in view, written out.
     #[test]
     fn one_box_in_view() {
-        let mut file: Vec<u8> = vec![2, 0, 0, 0, 20, 0, 0, 0, 0x80, 1, 0, 0, 0x94, 1, 0, 0, 0xb8, 0, 0, 0];
+        let mut file: Vec<u8> = vec![2, 0, 0, 0, 20, 0, 0, 0, 0x88, 1, 0, 0, 0x9c, 1, 0, 0, 0xb8, 0, 0, 0];
         let cube = [[1, 0, 0, 0], [-1, 0, 0, -10], [0, 1, 0, 0], [0, -1, 0, -10], [0, 0, 1, 0], [0, 0, -1, -10]];
         let rays = [0; 24];
         let range = [10, 0, 0, 12, 1, 1];
         let placed = [1, 0, 0, 0, 0, 1, 0, 0, 0, 0, 1, 0, 0, 0, 0, 1, 0];
-        for number in cube.as_flattened().iter().chain(&rays).chain(&range).chain(&placed) {
+        for number in [6].iter().chain(cube.as_flattened()).chain(&rays).chain(&range).chain(&placed) {
             file.extend(f64::from(*number).to_le_bytes());
         }
         assert_eq!(lines(&file), "1 yes\n");
-        file[404..412].copy_from_slice(&11_f64.to_le_bytes());
+        file[412..420].copy_from_slice(&11_f64.to_le_bytes());
         assert_eq!(lines(&file), "1 no\n");
+    }
+
+    /// The same box, and a wall behind the cube's planes at x = 9.
+    #[test]
+    fn one_box_behind_a_wall() {
+        let mut file: Vec<u8> = vec![2, 0, 0, 0, 20, 0, 0, 0, 0xa8, 1, 0, 0, 0xbc, 1, 0, 0, 0xb8, 0, 0, 0];
+        let cube = [[1, 0, 0, 0], [-1, 0, 0, -10], [0, 1, 0, 0], [0, -1, 0, -10], [0, 0, 1, 0], [0, 0, -1, -10]];
+        let wall = [-1, 0, 0, -9];
+        let rays = [0; 24];
+        let range = [10, 0, 0, 12, 1, 1];
+        let placed = [1, 0, 0, 0, 0, 1, 0, 0, 0, 0, 1, 0, 0, 0, 0, 1, 0];
+        for number in [7].iter().chain(cube.as_flattened()).chain(&wall).chain(&rays).chain(&range).chain(&placed) {
+            file.extend(f64::from(*number).to_le_bytes());
+        }
+        assert_eq!(lines(&file), "1 no\n");
+        file[444..452].copy_from_slice(&9_f64.to_le_bytes());
+        assert_eq!(lines(&file), "1 yes\n");
+        file[20..28].copy_from_slice(&6_f64.to_le_bytes());
+        assert_eq!(lines(&file), "refused 10\n");
+        file[20..28].copy_from_slice(&7.5_f64.to_le_bytes());
+        assert_eq!(lines(&file), "refused 12\n");
     }
 }

@@ -1,9 +1,9 @@
 //! The Rust's types from paper 01's records, and back.
 
-use crate::judge::NO_SUCH_VALUE;
+use crate::judge::{NO_COUNT, NO_SUCH_VALUE, WRONG_INPUT};
 use openusd::gf::{
     BBox3d, Camera, Frustum, FrustumPlanes, Mat4d, Plane, Projection, ProjectionParams, Range1d, Range2d, Range3d, Ray,
-    Rotation, Vec2d, Vec3d, Vec4d,
+    Rotation, Screens, Vec2d, Vec3d, Vec4d,
 };
 
 /// `N` numbers of a record, from `at` on.
@@ -141,15 +141,54 @@ const SOME_FRUSTUM: Frustum = Frustum {
     projection: Projection::Perspective,
 };
 
-/// The planes of a volume.
-pub fn planes(volume: &[f64; 48]) -> FrustumPlanes {
-    let planes = std::array::from_fn(|i| plane(part(volume, 4 * i)));
-    FrustumPlanes { frustum: SOME_FRUSTUM, planes }
+/// How many planes a volume's first number states: a whole count from 6 to 32.
+pub fn counted(number: f64) -> Result<usize, u32> {
+    (6..=32).find(|&n| n as f64 == number).ok_or(NO_COUNT)
 }
 
-/// The rays of a volume.
-pub fn rays(volume: &[f64; 48]) -> [Ray; 4] {
-    std::array::from_fn(|i| ray(part(volume, 24 + 6 * i)))
+/// How many planes a volume's record holds, where it has room for six: those
+/// that it states, and then the length of that count.
+pub fn held(volume: &[f64]) -> Result<usize, u32> {
+    let count = counted(volume[0])?;
+    if volume.len() != 1 + 4 * count + 24 {
+        return Err(WRONG_INPUT);
+    }
+    Ok(count)
+}
+
+/// The six planes in front of a volume.
+pub fn planes(volume: &[f64]) -> FrustumPlanes {
+    let front: &[f64; 25] = part(volume, 0);
+    FrustumPlanes { frustum: SOME_FRUSTUM, planes: std::array::from_fn(|i| plane(part(front, 1 + 4 * i))) }
+}
+
+/// Asks the Rust about a volume of so many planes: as it is where they are
+/// six, and its copy over a list of planes where they are more.
+pub fn ask<T>(
+    volume: &[f64],
+    count: usize,
+    six: impl FnOnce(FrustumPlanes) -> T,
+    more: impl FnOnce(Screens) -> T,
+) -> T {
+    if count == 6 {
+        return six(planes(volume));
+    }
+    let mut list = [plane(&[0.0; 4]); 32];
+    for (to, numbers) in list.iter_mut().zip(volume[1..][..4 * count].as_chunks().0) {
+        *to = plane(numbers);
+    }
+    more(Screens { planes: &list[..count] })
+}
+
+/// How many planes there are by the length alone, for what is timed.
+pub fn count_by_length(volume: &[f64]) -> usize {
+    (volume.len() - 25) / 4
+}
+
+/// The rays of a volume of so many planes.
+pub fn rays(volume: &[f64], count: usize) -> [Ray; 4] {
+    let behind: &[f64; 24] = part(volume, 1 + 4 * count);
+    std::array::from_fn(|i| ray(part(behind, 6 * i)))
 }
 
 /// The volume that a frustum sees.

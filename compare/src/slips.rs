@@ -4,8 +4,9 @@
 use crate::farm::{FarmFiles, Reader};
 use crate::inputs::Rng;
 use crate::reader::BOXES;
-use crate::rust::{boxed, planes};
+use crate::rust::{boxed, plane};
 use crate::trial::Trial;
+use openusd::gf::{Plane, Screens};
 use std::ops::Range;
 use std::slice;
 
@@ -36,13 +37,20 @@ slips! {
     EmptySkipped EmptyStartUnchecked EmptyEndUnchecked EmptyAtEndRefused
     // Lengths.
     LongerAllowed LongerVolumeAllowed ShorterAllowed LengthInWords VolumeUnchecked LastUnchecked FirstUnchecked
-    EitherLength
+    EitherLength VolumeInPlanes
+    // How many planes, and when that is asked.
+    ShortBy384 ShortBy391 ShortBy393 ShortBy400
+    PlanesFiveAllowed PlanesSixAlone PlanesSixRefused PlanesMostRefused PlanesMoreAllowed
+    PlanesTruncated PlanesRounded PlanesIn32Bits PlanesInAByte PlanesUnsigned PlanesNanAllowed PlanesByLength
+    PlanesAreTen PlanesAreThree PlanesBeforeShort PlanesAfterVolume PlanesAfterBoxes PlanesAfterFlags PlanesFirst
     // Flags.
     NegativeZeroRefused NanAllowed NonZeroAllowed FlagBits FirstFlagUnchecked LastFlagUnchecked FlagTruncated
     // The order.
     SectionBySection LengthsWithPlaces FlagsWithLengths FlagsFirst LengthsFirst
     // What is read.
     GapRead GapReadBeforeVolume GapReadAtLast VolumeAtDirectorysEnd BoxByOne
+    PlanesAtOldPlace PlanesByOne PlanesSixUsed PlanesLastUnused PlanesSeventhUnused PlanesUsedTo14 PlanesUsedTo16
+    PlanesUsedTo32 RaysUsed RaysInFront
     // The result.
     LastNotJudged SlotByOne Inverted UnusedLeft UnusedZero UnusedOneShort CountOfSections CountNotWritten
     CountOnRefusal OutOnRefusal OutOnFlag FileWritten BesideWritten BesideCountWritten
@@ -51,6 +59,85 @@ slips! {
 /// A number of the file, zeros where it has ended.
 fn number(file: &[u8], at: u64, bytes: u64) -> u64 {
     (0..bytes).rev().fold(0, |number, i| number << 8 | u64::from(*file.get((at + i) as usize).unwrap_or(&0)))
+}
+
+/// Whether a section of this many bytes is too short for any volume.
+fn is_short(slip: Slip, length: u64) -> bool {
+    length
+        < match slip {
+            Slip::ShortBy384 => 384,
+            Slip::ShortBy391 => 391,
+            Slip::ShortBy393 => 393,
+            Slip::ShortBy400 => 400,
+            _ => 392,
+        }
+}
+
+/// How many planes the volume says that it has.
+fn stated(slip: Slip, file: &[u8], sections: &Sections) -> Result<u64, u32> {
+    let number = f64::from_bits(number(file, read_from(slip, sections, 0), 8));
+    let number = match slip {
+        Slip::PlanesTruncated => number.trunc(),
+        Slip::PlanesRounded => number.round(),
+        Slip::PlanesUnsigned => number.abs(),
+        Slip::PlanesNanAllowed if number.is_nan() => 6.0,
+        Slip::PlanesIn32Bits if number.fract() == 0.0 => (number as i64 as u32).into(),
+        Slip::PlanesInAByte if number.fract() == 0.0 => (number as i64 as u8).into(),
+        Slip::PlanesByLength => sections.length[0].saturating_sub(200) as f64 / 32.0,
+        _ => number,
+    };
+    let (least, most) = match slip {
+        Slip::PlanesFiveAllowed => (5, 32),
+        Slip::PlanesSixAlone => (6, 6),
+        Slip::PlanesSixRefused => (7, 32),
+        Slip::PlanesMostRefused => (6, 31),
+        Slip::PlanesMoreAllowed => (6, 33),
+        _ => (6, 32),
+    };
+    let none = match slip {
+        Slip::PlanesAreTen => 10,
+        Slip::PlanesAreThree => 3,
+        _ => 12,
+    };
+    (least..=most).find(|&n| n as f64 == number).ok_or(none)
+}
+
+/// The checks of the volume: too short for any, its count, its length.
+fn volume_checked(slip: Slip, file: &[u8], sections: &Sections) -> Result<(), u32> {
+    let length = sections.length[0];
+    if slip == Slip::EmptySkipped && length == 0 {
+        return Ok(());
+    }
+    if slip == Slip::PlanesBeforeShort {
+        stated(slip, file, sections)?;
+    }
+    if is_short(slip, length) && !matches!(slip, Slip::VolumeUnchecked | Slip::ShorterAllowed) {
+        return Err(10);
+    }
+    let planes = match slip {
+        Slip::PlanesAfterVolume => {
+            let number = f64::from_bits(number(file, sections.at[0], 8));
+            if number.fract() != 0.0 || 200.0 + 32.0 * number != length as f64 {
+                return Err(10);
+            }
+            stated(slip, file, sections)?
+        }
+        // Looked at later.
+        Slip::PlanesAfterFlags => stated(slip, file, sections).unwrap_or((length - 200) / 32),
+        _ => stated(slip, file, sections)?,
+    };
+    let wanted = 8 * (25 + 4 * planes);
+    let fits = match slip {
+        Slip::LongerAllowed | Slip::LongerVolumeAllowed => length >= wanted,
+        Slip::ShorterAllowed => length <= wanted,
+        Slip::LengthInWords => length / 8 == wanted / 8,
+        Slip::VolumeInPlanes => (length - 200) / 32 == planes,
+        Slip::VolumeUnchecked => true,
+        Slip::EitherLength => length == wanted || length == 184,
+        Slip::PlanesAfterFlags if stated(slip, file, sections).is_err() => true,
+        _ => length == wanted,
+    };
+    if fits { Ok(()) } else { Err(10) }
 }
 
 fn record<const N: usize>(file: &[u8], at: u64) -> [f64; N] {
@@ -106,17 +193,16 @@ fn lies_well(slip: Slip, sections: &Sections, i: usize) -> bool {
     starts && ends
 }
 
+/// Whether box `i` has its length.
 fn has_length(slip: Slip, sections: &Sections, i: usize) -> bool {
-    let (length, wanted) = (sections.length[i], if i == 0 { 384 } else { 184 });
+    let (length, wanted) = (sections.length[i], 184);
     match slip {
         Slip::LongerAllowed => length >= wanted,
-        Slip::LongerVolumeAllowed if i == 0 => length >= wanted,
         Slip::ShorterAllowed => length <= wanted,
         Slip::LengthInWords => length / 8 == wanted / 8,
-        Slip::VolumeUnchecked if i == 0 => true,
         Slip::FirstUnchecked if i == 1 => true,
-        Slip::LastUnchecked if i > 0 && i + 1 == sections.at.len() => true,
-        Slip::EitherLength => length == 384 || length == 184,
+        Slip::LastUnchecked if i + 1 == sections.at.len() => true,
+        Slip::EitherLength => length == 392 || length == 184,
         Slip::EmptySkipped if length == 0 => true,
         _ => length == wanted,
     }
@@ -190,7 +276,11 @@ fn checked(slip: Slip, file: &[u8]) -> Result<Sections, u32> {
     let found = sections(slip, file)?;
     let all = 0..found.at.len();
     let lies = |i: usize| if lies_well(slip, &found, i) { Ok(()) } else { Err(9) };
-    let length = |i: usize| if has_length(slip, &found, i) { Ok(()) } else { Err(10) };
+    let length = |i: usize| match i {
+        0 => volume_checked(slip, file, &found),
+        _ if has_length(slip, &found, i) => Ok(()),
+        _ => Err(10),
+    };
     let flag = |i: usize| if has_flag(slip, file, &found, i) { Ok(()) } else { Err(3) };
     match slip {
         Slip::SectionBySection => all.clone().try_for_each(|i| lies(i).and(length(i)).and(flag(i)))?,
@@ -204,6 +294,11 @@ fn checked(slip: Slip, file: &[u8]) -> Result<Sections, u32> {
             all.clone().try_for_each(flag)?;
         }
         Slip::LengthsFirst => all.clone().try_for_each(length)?,
+        Slip::PlanesFirst => stated(slip, file, &found).map(|_| ())?,
+        Slip::PlanesAfterBoxes => {
+            all.clone().try_for_each(lies)?;
+            all.clone().skip(1).try_for_each(length)?;
+        }
         _ => {}
     }
     all.clone().try_for_each(lies)?;
@@ -212,7 +307,33 @@ fn checked(slip: Slip, file: &[u8]) -> Result<Sections, u32> {
     }
     all.clone().try_for_each(length)?;
     all.clone().try_for_each(flag)?;
+    if slip == Slip::PlanesAfterFlags {
+        stated(slip, file, &found)?;
+    }
     Ok(found)
+}
+
+/// The planes that are used.
+fn used_planes(slip: Slip, file: &[u8], sections: &Sections) -> Vec<Plane> {
+    let count = stated(slip, file, sections).unwrap_or(6);
+    let used = match slip {
+        Slip::PlanesSixUsed => 6,
+        Slip::PlanesLastUnused => count - 1,
+        Slip::PlanesUsedTo14 => count.min(14),
+        Slip::PlanesUsedTo16 => count.min(16),
+        Slip::PlanesUsedTo32 => 32,
+        Slip::RaysUsed => count + 6,
+        _ => count,
+    };
+    let first = match slip {
+        Slip::PlanesAtOldPlace => 0,
+        Slip::PlanesByOne => 16,
+        Slip::RaysInFront => 8 + 192,
+        _ => 8,
+    };
+    let at = read_from(slip, sections, 0) + first;
+    let places = (0..used).filter(|&i| slip != Slip::PlanesSeventhUnused || i != 6);
+    places.map(|i| plane(&record(file, at + 32 * i))).collect()
 }
 
 /// Reads a file with a slip.
@@ -253,7 +374,8 @@ fn read(slip: Slip, file: &[u8], out: &mut [u32], count: &mut u32) -> u32 {
         }
     };
     let boxes = (found.at.len() - 1).min(out.len());
-    let view = planes(&record(file, read_from(slip, &found, 0)));
+    let planes = used_planes(slip, file, &found);
+    let view = Screens { planes: &planes };
     let used = boxes - usize::from(slip == Slip::LastNotJudged);
     for i in 1..=used {
         let mut one: [f64; 23] = record(file, read_from(slip, &found, i));

@@ -7,7 +7,7 @@ use std::ops::Range;
 pub struct Outcome;
 
 impl Outcome {
-    pub const NAMES: [&'static str; 19] = [
+    pub const NAMES: [&'static str; 20] = [
         "done",
         "refused 1",
         "refused 2",
@@ -20,6 +20,7 @@ impl Outcome {
         "refused 9",
         "refused 10",
         "refused 11",
+        "refused 12",
         "no",
         "yes",
         "zero",
@@ -28,10 +29,10 @@ impl Outcome {
         "infinite",
         "NaN",
     ];
-    pub const NO: usize = 12;
-    pub const YES: usize = 13;
+    pub const NO: usize = 13;
+    pub const YES: usize = 14;
     /// The first of the kinds of number.
-    pub const NUMBER: usize = 14;
+    pub const NUMBER: usize = 15;
 }
 
 /// How many differing cases are described.

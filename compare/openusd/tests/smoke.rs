@@ -1,6 +1,6 @@
 //! That the assembled gf answers, and that its shim changes nothing else.
 
-use openusd::gf::{BBox3d, Camera, Frustum, FrustumPlanes, Mat4d, Plane, Range3d, Ray, Vec2d, Vec3d, vec3d};
+use openusd::gf::{BBox3d, Camera, Frustum, FrustumPlanes, Mat4d, Plane, Range3d, Ray, Screens, Vec2d, Vec3d, vec3d};
 
 /// Planes as they are given, without being made unit length.
 fn view(planes: [([f64; 3], f64); 6]) -> FrustumPlanes {
@@ -116,4 +116,29 @@ fn the_triangle_method_takes_the_rays_it_is_given() {
         surrounding += u32::from(asked != planes.intersects_triangle_by(a, b, c, &away));
     }
     assert!(surrounding > 100, "{surrounding} triangles were settled by a ray");
+}
+
+#[test]
+fn a_list_of_planes_is_asked_as_the_six_are() {
+    let planes = Frustum::default().planes();
+    let six = Screens { planes: &planes.planes };
+    // The same planes again, up to 32.
+    let more: Vec<Plane> = (0..32).map(|i| planes.planes[i % 6]).collect();
+    let mut yes = [0; 3];
+    let mut state = 1_u64;
+    let mut coordinate = || {
+        state = state.wrapping_mul(6364136223846793005).wrapping_add(1442695040888963407);
+        (state >> 40) as f64 / (1 << 20) as f64 - 8.0
+    };
+    for count in (6..=32).cycle().take(100_000) {
+        let [a, b] = [0; 2].map(|_| vec3d(coordinate(), coordinate(), coordinate()));
+        let b_box = BBox3d::new(Range3d::new(a, a + vec3d(1.0, 2.0, 3.0)), Mat4d::IDENTITY);
+        let asked = [planes.intersects_point(a), planes.intersects_segment(a, b), planes.intersects_bbox(&b_box)];
+        for list in [&six, &Screens { planes: &more[..count] }] {
+            let listed = [list.intersects_point(a), list.intersects_segment(a, b), list.intersects_bbox(&b_box)];
+            assert_eq!(listed, asked, "{count} planes");
+        }
+        yes.iter_mut().zip(asked).for_each(|(yes, asked)| *yes += u32::from(asked));
+    }
+    assert!(yes.iter().all(|&yes| (1000..99_000).contains(&yes)), "{yes:?}");
 }

@@ -40,13 +40,17 @@ impl WholePlane {
     }
 }
 
+fn farm_planes(planes: &[WholePlane]) -> Vec<[f64; 4]> {
+    planes.iter().map(|plane| plane_of(floats(plane.normal), plane.distance as f64)).collect()
+}
+
 /// A volume of these planes; its rays are not looked at.
-pub fn farm_volume(planes: &[WholePlane; 6]) -> Volume {
-    let mut volume = [0.0; 48];
-    for (to, plane) in volume.chunks_exact_mut(4).zip(planes) {
-        to.copy_from_slice(&plane_of(floats(plane.normal), plane.distance as f64));
-    }
-    volume
+pub fn farm_volume(planes: &[WholePlane]) -> Volume {
+    Volume::new(&farm_planes(planes), &[0.0; 24])
+}
+
+pub fn farm_six(planes: &[WholePlane; 6]) -> Six {
+    joined(&[farm_planes(planes).as_flattened(), &[0.0; 24]])
 }
 
 /// A quarter-turn placement.
@@ -187,6 +191,29 @@ pub fn farm_point(rng: &mut Rng) -> ([WholePlane; 6], Whole) {
         plane_by(rng, p, reach)
     });
     (planes, p)
+}
+
+/// These planes among others, up to the most that a volume may have: others
+/// are of the same kind, the same plane again or mostly one further out, so
+/// that those that matter stand at any place.
+pub fn among_others(rng: &mut Rng, six: &[WholePlane; 6]) -> Vec<WholePlane> {
+    let mut planes = six.to_vec();
+    if rng.once_in(3) {
+        return planes;
+    }
+    for _ in 0..rng.below((MOST - FEWEST) as u64 + 1) {
+        let one = six[rng.below(6) as usize];
+        let further = match rng.below(64) {
+            0 => 1,
+            1..16 => 0,
+            16..40 => -1,
+            _ => -rng.whole(1 << 20).abs(),
+        };
+        let other = WholePlane { distance: one.distance + further, ..one };
+        let at = rng.below(planes.len() as u64 + 1) as usize;
+        planes.insert(at, if other.within_limits() { other } else { one });
+    }
+    planes
 }
 
 /// A plane that every grid point satisfies.

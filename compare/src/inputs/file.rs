@@ -1,7 +1,7 @@
 //! Farm files in the making: their bytes, and well-formed ones with gaps.
 
 use super::*;
-use crate::reader::{BOX, BOXES, LARGEST, VOLUME};
+use crate::reader::{BOX, BOXES, LARGEST, LEAST_VOLUME, volume_bytes};
 use std::sync::LazyLock;
 
 /// The bytes of a farm file, which may be damaged.
@@ -119,24 +119,19 @@ static NOISE: LazyLock<Vec<u8>> =
 const NOISE_BYTES: usize = 1 << 17;
 
 /// The bytes of a record.
-pub fn bytes_of<const N: usize>(record: &[f64]) -> [u8; N] {
-    let mut bytes = [0; N];
-    assert_eq!(N, 8 * record.len());
-    for (to, x) in bytes.as_chunks_mut().0.iter_mut().zip(record) {
-        *to = x.to_le_bytes();
-    }
-    bytes
+pub fn bytes_of(record: &[f64]) -> Vec<u8> {
+    record.iter().flat_map(|x| x.to_le_bytes()).collect()
 }
 
 /// The records of a file: its volume and boxes to choose from.
 pub struct Orchard {
-    volume: [u8; VOLUME],
-    boxes: Vec<[u8; BOX]>,
+    volume: Vec<u8>,
+    boxes: Vec<Vec<u8>>,
 }
 
 impl Orchard {
     pub fn new((volume, boxes): (Volume, Vec<Boxed>)) -> Orchard {
-        Orchard { volume: bytes_of(&volume), boxes: boxes.iter().map(|b| bytes_of(b)).collect() }
+        Orchard { volume: bytes_of(volume.numbers()), boxes: boxes.iter().map(|b| bytes_of(b)).collect() }
     }
 
     /// The file of all records in their order, with gaps of these lengths:
@@ -186,13 +181,41 @@ pub(super) fn gap(rng: &mut Rng) -> usize {
 
 /// A length that a section may have by mistake.
 pub(super) fn other_length(rng: &mut Rng) -> usize {
-    let exact = rng.pick(&[VOLUME, BOX]);
+    let any = volume_bytes(rng.below(MOST as u64 + 2) as usize);
+    let exact = rng.pick(&[LEAST_VOLUME, LEAST_VOLUME, BOX, BOX, any]);
     match rng.below(8) {
         0..2 => 0,
         2..4 => exact,
         4..6 => exact - 1 + 2 * rng.below(2) as usize,
         6 => exact - 8 + 16 * rng.below(2) as usize,
         _ => rng.below(500) as usize,
+    }
+}
+
+/// Puts another volume in the place of that at the end: the cube with one
+/// plane too few or too many; a record without its count; any length with any
+/// count.
+fn other_volume(rng: &mut Rng, file: &mut FarmFile) {
+    let (own, length) = (file.length(0), rng.pick(&[383, 384, 391, 392, 393, 399, 400, 424, 1223, 1224, 1225, 1256]));
+    let whole = file.bytes.split_off(file.offset(0) as usize);
+    match rng.below(4) {
+        0 => {
+            let many = with_planes(CUBE, MOST + 1);
+            let few = Volume::new(&CUBE[..4 * (FEWEST - 1)].as_chunks().0, &[0.0; 24]);
+            file.put(0, &bytes_of(rng.pick(&[few, many]).numbers()));
+        }
+        1 => file.put(0, &whole[8..]),
+        2 => {
+            file.put(0, &whole);
+            file.cut(rng, 0, length);
+        }
+        _ => {
+            file.put(0, &whole);
+            let count = f64::from_le_bytes(*whole.first_chunk().expect("a count"));
+            file.set_number(0, 0, other_planes(rng, count));
+            let length = if rng.once_in(2) { length } else { own as usize };
+            file.cut(rng, 0, length);
+        }
     }
 }
 
@@ -216,9 +239,12 @@ pub(super) fn laid(rng: &mut Rng, file: &mut FarmFile, of_lengths: u64) {
         let place = if i == 0 { 0 } else { 1 + rng.below(BOXES as u64) as usize };
         file.put(i, orchard.record(place));
         if rng.once_in(12) {
-            // Of a box any number but the flag.
-            let numbers = if i == 0 { 48 } else { 22 };
-            file.set_number(i, rng.below(numbers) as usize, odd(rng));
+            // Any number but the count of planes and the flag.
+            let (first, numbers) = if i == 0 { (1, file.length(0) / 8 - 1) } else { (0, 22) };
+            file.set_number(i, first + rng.below(numbers.into()) as usize, odd(rng));
+        }
+        if i == 0 && rng.once_in(32) {
+            other_volume(rng, file);
         }
         if i > 0 {
             file.set_flag(i, rng.pick(&[0.0, 0.0, -0.0, 1.0]));
@@ -248,7 +274,8 @@ pub fn well_formed(rng: &mut Rng, boxes: usize, gaps: bool) -> FarmFile {
     Orchard::new((volume, records)).file(rng, |i| lengths[i])
 }
 
-/// A file as full as it can be, of boxes placed in one way, to be timed on.
-pub fn full_file(rng: &mut Rng, placement: fn(&mut Rng) -> Matrix) -> FarmFile {
-    Orchard::new(boxes_asked(rng, BOXES, placement)).file(rng, |_| 0)
+/// A file with as many boxes as it can have, placed in one way, and a volume
+/// of so many planes, to be timed on.
+pub fn full_file(rng: &mut Rng, planes: usize, placement: fn(&mut Rng) -> Matrix) -> FarmFile {
+    Orchard::new(boxes_asked(rng, planes, BOXES, placement)).file(rng, |_| 0)
 }

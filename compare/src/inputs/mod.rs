@@ -5,23 +5,25 @@ mod camera;
 mod damage;
 mod farm;
 mod file;
-mod notable_file;
 mod group;
+mod notable_file;
 mod number;
 mod solid;
 mod space;
 mod view;
+mod volume;
 
 pub use camera::*;
 pub use damage::*;
 pub use farm::*;
 pub use file::*;
-pub use notable_file::*;
 pub use group::*;
+pub use notable_file::*;
 pub use number::*;
 pub use solid::*;
 pub use space::*;
 pub use view::*;
+pub use volume::*;
 
 /// Splitmix64.
 pub struct Rng(u64);

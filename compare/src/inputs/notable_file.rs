@@ -2,8 +2,8 @@
 //! it, or 0.
 
 use super::*;
-use crate::judge::{NO_FARM_FILE, NO_SUCH_VALUE, WRONG_INPUT, WRONG_SECTION};
-use crate::reader::{self, BOX, BOXES, LARGEST, VOLUME};
+use crate::judge::{NO_COUNT, NO_FARM_FILE, NO_SUCH_VALUE, WRONG_INPUT, WRONG_SECTION};
+use crate::reader::{self, BOX, BOXES, LARGEST, LEAST_VOLUME, volume_bytes};
 
 pub struct NotableFile {
     pub what: String,
@@ -17,27 +17,42 @@ fn block(i: usize) -> Boxed {
     box_of([x, 0.0, 0.0, x + 1.0, 1.0, 1.0], IDENTITY, [0.0, 1.0, -0.0][i % 3])
 }
 
+/// These blocks in a volume.
+fn orchard(volume: Volume, boxes: usize) -> Orchard {
+    Orchard::new((volume, (0..boxes).map(block).collect()))
+}
+
 /// A well-formed file of these blocks in the cube, without gaps.
 fn plain(boxes: usize) -> FarmFile {
-    Orchard::new((CUBE, (0..boxes).map(block).collect())).file(&mut Rng::at(0, 0), |_| 0)
+    viewed(Volume::of(CUBE), boxes)
+}
+
+/// The same in another volume.
+fn viewed(volume: Volume, boxes: usize) -> FarmFile {
+    orchard(volume, boxes).file(&mut Rng::at(0, 0), |_| 0)
 }
 
 /// The same with a gap before every section and at the end.
 fn gapped(boxes: usize) -> FarmFile {
     let gap = |i: usize| 1 + 5 * i % 12;
-    Orchard::new((CUBE, (0..boxes).map(block).collect())).file(&mut Rng::at(0, 1), gap)
+    orchard(Volume::of(CUBE), boxes).file(&mut Rng::at(0, 1), gap)
 }
 
 /// A file of this many boxes whose sections have these lengths, one after
 /// another.
 fn of_lengths(boxes: usize, others: &[(usize, usize)]) -> FarmFile {
+    viewed_of_lengths(Volume::of(CUBE), boxes, others)
+}
+
+/// The same in another volume.
+fn viewed_of_lengths(volume: Volume, boxes: usize, others: &[(usize, usize)]) -> FarmFile {
     let rng = &mut Rng::at(0, 2);
     let mut file = FarmFile::default();
     file.begin(1 + boxes);
     for i in 0..=boxes {
         match i {
-            0 => file.put(0, &bytes_of::<VOLUME>(&CUBE)),
-            _ => file.put(i, &bytes_of::<BOX>(&block(i - 1))),
+            0 => file.put(0, &bytes_of(volume.numbers())),
+            _ => file.put(i, &bytes_of(&block(i - 1))),
         }
         if let Some(&(_, length)) = others.iter().find(|&&(section, _)| section == i) {
             file.cut(rng, i, length);
@@ -69,6 +84,7 @@ pub fn notable_files() -> Vec<NotableFile> {
     no_length(&mut list);
     past_the_end(&mut list);
     lengths(&mut list);
+    planes(&mut list);
     flags(&mut list);
     several(&mut list);
     list.0
@@ -92,7 +108,7 @@ fn good(list: &mut List) {
     }
     for place in 0..4 {
         let only = |i: usize| if i == place { 11 } else { 0 };
-        let orchard = Orchard::new((CUBE, vec![block(0), block(2)]));
+        let orchard = Orchard::new((Volume::of(CUBE), vec![block(0), block(2)]));
         list.add(0, format!("a gap at place {place} alone"), orchard.file(&mut Rng::at(0, 3), only));
     }
     // A gap that would be read as sections in view, and one that would not.
@@ -102,7 +118,7 @@ fn good(list: &mut List) {
             file.bytes.resize(size + BOX, byte);
         });
     }
-    let (few, many) = ([1, 1, 2, 2, 3, 4, 5, 6, 7, 8, 9, 11], [16, 24, 33, 48, 62, 63]);
+    let (few, many) = ([1, 1, 2, 2, 3, 4, 5, 6, 7, 8, 9, 11], [16, 33, 48, 63]);
     for (case, &boxes) in few.iter().chain(&many).enumerate() {
         list.add(0, format!("{boxes} drawn boxes"), of_both_verdicts(case as u64, boxes, case % 3 != 0));
     }
@@ -111,7 +127,7 @@ fn good(list: &mut List) {
     for (number, x) in [(0, nan), (3, -0.0), (5, far), (6, nan), (6, 0.0), (11, 1e200), (18, -far), (21, 0.0)] {
         list.edited(0, "a box with a seldom number", plain(3), |file| file.set_number(2, number, x));
     }
-    for (number, x) in [(0, nan), (3, far), (7, -far), (3, -0.0), (24, nan), (47, far)] {
+    for (number, x) in [(1, nan), (4, far), (8, -far), (4, -0.0), (25, nan), (48, far)] {
         list.edited(0, "a volume with a seldom number", plain(3), |file| file.set_number(0, number, x));
     }
     for (flag, box_of) in [(0.0, 1), (-0.0, 2), (1.0, 3)] {
@@ -245,18 +261,92 @@ fn past_the_end(list: &mut List) {
 }
 
 fn lengths(list: &mut List) {
-    for length in [383, 385, 376, 392, BOX, 0] {
-        list.add(WRONG_SECTION, format!("a volume of {length} bytes"), of_lengths(2, &[(0, length)]));
+    for length in [0, 7, 8, BOX, 383, 384, 385, 391, 393, 399, 400, 416, 424] {
+        list.add(WRONG_SECTION, format!("a volume of {length} bytes"), of_lengths(1, &[(0, length)]));
     }
-    for length in [183, 185, 176, 192, VOLUME, 1] {
+    for length in [183, 185, 176, 192, LEAST_VOLUME, 1] {
         for i in [1, 2, 3] {
             list.add(WRONG_SECTION, format!("a box of {length} bytes"), of_lengths(3, &[(i, length)]));
         }
     }
-    list.add(WRONG_SECTION, "lengths exchanged", of_lengths(1, &[(0, BOX), (1, VOLUME)]));
+    list.add(WRONG_SECTION, "lengths exchanged", of_lengths(1, &[(0, BOX), (1, LEAST_VOLUME)]));
     list.edited(WRONG_SECTION, "a length with a byte less than there is room for", gapped(2), |file| {
         file.set_length(1, 183);
     });
+}
+
+/// The cube and a wall at x = 2 as the plane at this place behind the six;
+/// the others are further out.
+fn walled(planes: usize, place: usize) -> Volume {
+    let mut more = vec![[-1.0, 0.0, 0.0, -20.0]; planes - FEWEST];
+    more[place] = [-1.0, 0.0, 0.0, -2.0];
+    Volume::with_more(CUBE, &more)
+}
+
+/// How many planes the volume has, and how long it is.
+fn planes(list: &mut List) {
+    for count in [7, 14, 32] {
+        list.add(0, format!("{count} planes, some further out"), viewed(with_planes(CUBE, count), 4));
+    }
+    list.add(0, "a wall as the last of 7 planes, and a block before it", viewed(walled(7, 0), 4));
+    for count in [8, 14, 15, 17, 31, 32] {
+        list.add(0, format!("a wall as the last of {count} planes"), viewed(walled(count, count - 7), 1));
+    }
+    for place in [0, 1, 9, 24] {
+        list.add(0, format!("a wall at place {place} of 26"), viewed(walled(32, place), 1));
+    }
+    let walled_rays = Volume::new(&CUBE[..24].as_chunks().0.repeat(2)[..7], &[-1.0; 24]);
+    list.add(0, "rays that would be walls", viewed(walled_rays, 4));
+    list.edited(0, "a ray that is not a number", viewed(with_planes(CUBE, 32), 1), |file| {
+        (file.set_number(0, 129, f64::NAN), file.set_number(0, 152, f64::NAN));
+    });
+    // A count that is none, and one of another length.
+    for count in COUNTS {
+        let refusal = match count {
+            6.0 => 0,
+            7.0 | 31.0 | 32.0 => WRONG_SECTION,
+            _ => NO_COUNT,
+        };
+        list.add(refusal, format!("a count of {count}"), viewed(Volume::of(CUBE).counted(count), 1));
+    }
+    for (count, refusal) in [(6.0, WRONG_SECTION), (31.0, WRONG_SECTION), (33.0, NO_COUNT), (288.0, NO_COUNT)] {
+        let volume = with_planes(CUBE, 32).counted(count);
+        list.add(refusal, format!("a count of {count} for 32 planes"), viewed(volume, 1));
+    }
+    list.add(WRONG_SECTION, "a count of 6 for 7 planes", viewed(with_planes(CUBE, 7).counted(6.0), 1));
+    let five = Volume::new(&CUBE[..20].as_chunks().0, &[0.0; 24]);
+    list.add(WRONG_SECTION, "5 planes", viewed(five, 1));
+    list.add(NO_COUNT, "33 planes", viewed(with_planes(CUBE, 33), 1));
+    // Lengths about those of 7 and 32 planes.
+    for length in [392, 423, 425, 432, 456] {
+        let file = viewed_of_lengths(with_planes(CUBE, 7), 1, &[(0, length)]);
+        list.add(WRONG_SECTION, format!("7 planes in {length} bytes"), file);
+    }
+    assert_eq!(volume_bytes(32), 1224);
+    for length in [392, 1192, 1216, 1223, 1225, 1232] {
+        let file = viewed_of_lengths(with_planes(CUBE, 32), 1, &[(0, length)]);
+        list.add(WRONG_SECTION, format!("32 planes in {length} bytes"), file);
+    }
+    // No count, in less than there is room for six planes, and in more.
+    let nan = f64::NAN;
+    for (count, length) in [(nan, 0), (nan, 8), (5.0, 360), (nan, 384), (33.0, 384), (nan, 391), (6.5, 391)] {
+        let file = viewed_of_lengths(Volume::of(CUBE).counted(count), 1, &[(0, length)]);
+        list.add(WRONG_SECTION, format!("a count of {count} in {length} bytes"), file);
+    }
+    for (count, length) in [(nan, 393), (33.0, 393), (6.5, 399), (-6.0, 400), (nan, 424), (5.0, 1224), (33.0, 1255)] {
+        let file = viewed_of_lengths(Volume::of(CUBE).counted(count), 1, &[(0, length)]);
+        list.add(NO_COUNT, format!("a count of {count} in {length} bytes"), file);
+    }
+    // The record without its count, and the same with a number behind it.
+    let without = |length: usize| {
+        let mut file = FarmFile::default();
+        file.begin(2);
+        file.put(0, &bytes_of(&[&CUBE[..], &[0.0]].concat())[..length]);
+        file.put(1, &bytes_of(&block(0)));
+        file
+    };
+    list.add(WRONG_SECTION, "six planes and four rays alone", without(384));
+    list.add(NO_COUNT, "a number behind six planes and four rays", without(392));
 }
 
 fn flags(list: &mut List) {
@@ -290,6 +380,44 @@ fn several(list: &mut List) {
     list.edited(WRONG_SECTION, "a wrong volume, and a wrong flag after it", of_lengths(3, &[(0, 383)]), |file| {
         file.set_flag(3, f64::NAN);
     });
+    list.edited(
+        WRONG_SECTION,
+        "another length than the count's, and a wrong flag",
+        of_lengths(3, &[(0, 400)]),
+        |file| {
+            file.set_flag(1, 2.0);
+        },
+    );
+    for (i, length) in [(1, 183), (3, 0), (2, 392)] {
+        let file = viewed_of_lengths(Volume::of(CUBE).counted(33.0), 3, &[(i, length)]);
+        list.add(NO_COUNT, format!("no count, and a box of {length} bytes"), file);
+    }
+    for count in [5.0, f64::NAN] {
+        list.edited(NO_COUNT, "no count, and a wrong flag", viewed(Volume::of(CUBE).counted(count), 2), |file| {
+            file.set_flag(2, 2.0);
+        });
+    }
+    list.edited(
+        NO_COUNT,
+        "no count, a wrong length and a wrong flag",
+        viewed_of_lengths(Volume::of(CUBE).counted(262.0), 2, &[(0, 393), (1, 185)]),
+        |file| file.set_flag(2, 2.0),
+    );
+    list.edited(
+        WRONG_SECTION,
+        "a short volume, no count and a wrong flag",
+        viewed_of_lengths(Volume::of(CUBE).counted(-6.0), 2, &[(0, 384)]),
+        |file| file.set_flag(2, 2.0),
+    );
+    list.edited(NO_FARM_FILE, "no count, and an overlap", viewed(Volume::of(CUBE).counted(6.5), 3), |file| {
+        file.set_offset(3, file.offset(3) - 1);
+    });
+    list.edited(
+        NO_FARM_FILE,
+        "no count, and a byte missing at the end",
+        viewed(Volume::of(CUBE).counted(f64::INFINITY), 2),
+        FarmFile::shorten,
+    );
     list.edited(WRONG_SECTION, "a wrong length whose own flag is wrong", of_lengths(2, &[(2, 192)]), |file| {
         file.set_flag(2, 0.5);
     });
@@ -326,7 +454,7 @@ pub fn large_files() -> Vec<Vec<u8>> {
         let found = notable.iter().find(|file| file.refusal == refusal && file.bytes.len() > 500);
         FarmFile { bytes: found.expect("one of each").bytes.clone() }
     };
-    for refusal in [0, NO_FARM_FILE, WRONG_SECTION, NO_SUCH_VALUE] {
+    for refusal in [0, NO_FARM_FILE, WRONG_SECTION, NO_COUNT, NO_SUCH_VALUE] {
         for size in [LARGEST - 1, LARGEST, LARGEST + 1, LARGEST + 2, 2 * LARGEST, 2 * LARGEST + 1] {
             let mut file = first_of(refusal);
             file.fill_to(rng, size);
@@ -355,11 +483,13 @@ pub fn truncated_files() -> Vec<Vec<u8>> {
     cut(plain(1)).chain(cut(gapped(2))).collect()
 }
 
-/// Two small files, each byte of their directories replaced by every other.
+/// Two small files, each byte of their directories and of their counts of
+/// planes replaced by every other.
 pub fn corrupted_files() -> Vec<Vec<u8>> {
     let mut all = vec![];
     for file in [plain(1), gapped(2)] {
-        for at in 0..4 + 8 * file.pairs() {
+        let count = file.offset(0) as usize;
+        for at in (0..4 + 8 * file.pairs()).chain(count..count + 8) {
             for by in 1..=u8::MAX {
                 let mut bytes = file.bytes.clone();
                 bytes[at] ^= by;

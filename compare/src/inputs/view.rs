@@ -6,20 +6,18 @@ use openusd::gf;
 use std::sync::LazyLock;
 use std::{array, iter};
 
-pub type Volume = [f64; 48];
-
 /// A volume and its eight corners; the farm's and odd ones have none, and
 /// things near the origin are looked for in them.
 #[derive(Clone, Copy)]
 struct View {
-    volume: Volume,
+    volume: Six,
     corners: [Point; 8],
     /// The corners are whole.
     whole: bool,
 }
 
 /// Paper 01's cube.
-pub const CUBE: Volume = {
+pub const CUBE: Six = {
     let mut volume = [0.0; 48];
     let mut axis = 0;
     while axis < 3 {
@@ -129,15 +127,20 @@ fn way(rng: &mut Rng, view: &View) -> Point {
 
 pub fn volume_and_point(rng: &mut Rng) -> (Volume, Point) {
     let view = view(rng);
-    (view.volume, place(rng, &view))
+    (screened(rng, view.volume), place(rng, &view))
 }
 
 /// A volume and a segment, which mostly passes through some place of it, both
 /// ends outside. One in four is the farm's.
 pub fn volume_and_segment(rng: &mut Rng) -> (Volume, Point, Point) {
+    let (six, a, b) = six_and_segment(rng);
+    (screened(rng, six), a, b)
+}
+
+fn six_and_segment(rng: &mut Rng) -> (Six, Point, Point) {
     if rng.once_in(4) {
         let (planes, a, b) = farm_segment(rng);
-        return (farm_volume(&planes), floats(a), floats(b));
+        return (farm_six(&planes), floats(a), floats(b));
     }
     let view = view(rng);
     let through = place(rng, &view);
@@ -166,7 +169,7 @@ pub fn volume_and_segment(rng: &mut Rng) -> (Volume, Point, Point) {
 
 /// A segment along a plane whose normal is so short that a denominator is 0:
 /// that plane's crossing is infinite or NaN, and others are not.
-fn underflow(rng: &mut Rng, view: &View) -> (Volume, Point, Point) {
+fn underflow(rng: &mut Rng, view: &View) -> (Six, Point, Point) {
     let (axis, side) = (rng.below(3) as usize, rng.below(2) as usize);
     let plane = 8 * axis + 4 * side;
     let mut volume = view.volume;
@@ -198,7 +201,7 @@ pub fn volume_and_triangle(rng: &mut Rng) -> (Volume, Point, Point, Point) {
             [spread(2.0, 0.0), spread(-1.0, 2.0), spread(-1.0, -2.0)]
         }
     };
-    (view.volume, a, b, c)
+    (screened(rng, view.volume), a, b, c)
 }
 
 /// A box with a corner, or its middle, at a place of the view.
@@ -237,13 +240,13 @@ fn box_at(rng: &mut Rng, view: &View) -> Boxed {
 pub fn volume_and_box(rng: &mut Rng) -> (Volume, Boxed) {
     let view = view(rng);
     if rng.once_in(4) {
-        return (view.volume, boxed(rng));
+        return (screened(rng, view.volume), boxed(rng));
     }
     if rng.once_in(5) {
         let (planes, farm_box) = farm_box_view(rng);
-        return (farm_volume(&planes), farm_box.record());
+        return (screened(rng, farm_six(&planes)), farm_box.record());
     }
-    (view.volume, box_at(rng, &view))
+    (screened(rng, view.volume), box_at(rng, &view))
 }
 
 /// A volume and boxes to look for in it, as a farm file has them.
@@ -251,11 +254,12 @@ pub fn volume_and_boxes(rng: &mut Rng, count: usize) -> (Volume, Vec<Boxed>) {
     if rng.once_in(5) {
         let (planes, first) = farm_box_view(rng);
         let others = (1..count).map(|_| farm_box(rng).record());
-        return (farm_volume(&planes), iter::once(first.record()).chain(others).collect());
+        let boxes = iter::once(first.record()).chain(others).collect();
+        return (surveyed(rng, farm_six(&planes)), boxes);
     }
     let view = view(rng);
-    let boxes = (0..count).map(|_| if rng.once_in(6) { boxed(rng) } else { box_at(rng, &view) });
-    (view.volume, boxes.collect())
+    let boxes = (0..count).map(|_| if rng.once_in(6) { boxed(rng) } else { box_at(rng, &view) }).collect();
+    (surveyed(rng, view.volume), boxes)
 }
 
 /// A box and a matrix into clip space, whose sides the box often touches.
@@ -291,21 +295,26 @@ pub fn box_and_view(rng: &mut Rng) -> (Boxed, Matrix) {
 // What is timed.
 
 /// A frustum's volume and things about it, as a view is asked.
-pub fn asked(rng: &mut Rng) -> (Volume, Point, Point, Point, Boxed) {
+pub fn asked(rng: &mut Rng) -> (Six, Point, Point, Point, Boxed) {
     let view = FRUSTUMS[rng.below(FRUSTUMS.len() as u64) as usize];
     let points = [(); 3].map(|_| about(rng, &view));
     let placed = placed_at(points[0], placement(rng));
     (view.volume, points[0], points[1], points[2], box_of(ordinary_range(rng), placed, 0.0))
 }
 
-/// A frustum's volume and boxes about it, placed in one way.
-pub fn boxes_asked(rng: &mut Rng, count: usize, placement: fn(&mut Rng) -> Matrix) -> (Volume, Vec<Boxed>) {
+/// A frustum's volume of so many planes and boxes about it, placed in one way.
+pub fn boxes_asked(
+    rng: &mut Rng,
+    planes: usize,
+    count: usize,
+    placement: fn(&mut Rng) -> Matrix,
+) -> (Volume, Vec<Boxed>) {
     let view = FRUSTUMS[rng.below(FRUSTUMS.len() as u64) as usize];
     let one = |_| {
         let placed = placed_at(about(rng, &view), placement(rng));
         box_of(ordinary_range(rng), placed, 0.0)
     };
-    (view.volume, (0..count).map(one).collect())
+    (with_planes(view.volume, planes), (0..count).map(one).collect())
 }
 
 /// A point in the view or not far from it.

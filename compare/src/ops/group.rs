@@ -239,23 +239,18 @@ impl Op for Group {
 #[cfg(test)]
 mod tests {
     use super::*;
-    use crate::inputs::{IDENTITY, box_of};
+    use crate::inputs::{CUBE, IDENTITY, Volume, box_of};
     use crate::rust::planes;
 
     /// Two boxes beside paper 01's cube, one on either side: docs/VERDICTS.md.
     #[test]
     fn a_group_in_view_of_members_that_are_not() {
-        let mut cube = [0.0; 48];
-        for axis in 0..3 {
-            cube[8 * axis + axis] = 1.0;
-            cube[8 * axis + 4 + axis] = -1.0;
-            cube[8 * axis + 7] = -10.0;
-        }
+        let cube = Volume::of(CUBE);
         let [left, right] = [-3.0, 11.0].map(|x| box_of([x, 4.0, 4.0, x + 2.0, 6.0, 6.0], IDENTITY, 0.0));
         let mut group = [0.0; BOX];
         assert_eq!(rust([left, right].as_flattened(), &mut group), 0);
         assert_eq!(group, box_of([-3.0, 4.0, 4.0, 13.0, 6.0, 6.0], IDENTITY, 0.0));
-        let in_view = |record: &Boxed| planes(&cube).intersects_bbox(&boxed(record).expect("a flag"));
+        let in_view = |record: &Boxed| planes(cube.numbers()).intersects_bbox(&boxed(record).expect("a flag"));
         assert_eq!([in_view(&left), in_view(&right), in_view(&group)], [false, false, true]);
     }
 }

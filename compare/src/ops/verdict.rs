@@ -1,9 +1,9 @@
 //! Verdicts on what is in a volume.
 
 use crate::exported::{call, of_archive};
-use crate::inputs::{self, Boxed, CUBE, IDENTITY, Matrix, Point, Range, Volume, box_of, diagonal, with};
+use crate::inputs::{self, Boxed, CUBE, IDENTITY, Matrix, Point, Range, Six, Volume, box_of, diagonal, with};
 use crate::op::Op;
-use crate::rust::{boxed, boxed_without_inverse, matrix, planes, point, rays};
+use crate::rust::{ask, boxed, boxed_without_inverse, count_by_length, held, matrix, planes, point, rays};
 use openusd::gf;
 
 pub fn all() -> Vec<Box<dyn Op>> {
@@ -12,7 +12,25 @@ pub fn all() -> Vec<Box<dyn Op>> {
 
 const NAN: f64 = f64::NAN;
 const FAR: f64 = f64::INFINITY;
+/// The cube with every odd count, and with others than its own.
+fn odd_counts() -> impl Iterator<Item = Volume> {
+    let six = inputs::COUNTS.into_iter().map(|count| Volume::of(CUBE).counted(count));
+    let most = [6.0, 31.0, 32.0, 33.0, 32.5, NAN].into_iter().map(|count| inputs::with_planes(CUBE, 32).counted(count));
+    // Fifty and 52 numbers behind a count of six, and a plane too many.
+    let more = [7, 8, 31, 33].map(|planes| inputs::with_planes(CUBE, planes).counted(6.0));
+    six.chain(most).chain(more).chain([5, 33].map(|planes| inputs::with_planes(CUBE, planes)))
+}
+
 const UNIT: Range = [0.0, 0.0, 0.0, 1.0, 1.0, 1.0];
+
+fn point_seen(volume: &[f64], count: usize, p: &Point) -> bool {
+    ask(volume, count, |v| v.intersects_point(point(p)), |v| v.intersects_point(point(p)))
+}
+
+fn timed_point(rng: &mut inputs::Rng, count: usize) -> (Volume, Point) {
+    let (six, p, ..) = inputs::asked(rng);
+    (inputs::with_planes(six, count), p)
+}
 
 fn of_point() -> Box<dyn Op> {
     let points: [Point; 19] = [
@@ -41,16 +59,30 @@ fn of_point() -> Box<dyn Op> {
     ];
     let short = [2, 10, 18].map(|i: usize| with(CUBE, &[(i % 4, 1e-13)]));
     let fixed = points.map(|p| (CUBE, p)).into_iter();
+    let counts = odd_counts().map(|volume| (volume, [5.0; 3]));
+    let screened = points.map(|p| (inputs::with_planes(CUBE, 32), p));
     let more =
         [(short[0], [0.5; 3]), ([0.0; 48], [1.0; 3]), ([NAN; 48], [1.0; 3]), (with(CUBE, &[(3, NAN)]), [5.0; 3])];
-    call!(218 gf_intersects_point(volume: 48, p: 3) -> bool { Ok(planes(volume).intersects_point(point(p))) })
-        .fixed(fixed.chain(more).collect())
+    let six =
+        call!(218 gf_intersects_point(volume: 49, p: 3) -> bool { Ok(planes(volume).intersects_point(point(p))) });
+    let many = || call!(218 gf_intersects_point(volume: Volume, p: 3) -> bool { Ok(point_seen(volume, count_by_length(volume), p)) });
+    call!(218 gf_intersects_point(volume: Volume, p: 3) -> bool { Ok(point_seen(volume, held(volume)?, p)) })
+        .fixed(fixed.chain(more).map(|(six, p)| (Volume::of(six), p)).chain(counts).chain(screened).collect())
         .drawn(|_, rng| inputs::volume_and_point(rng))
-        .timed("frustums", |_, rng| {
-            let (volume, p, ..) = inputs::asked(rng);
-            (volume, p)
-        })
+        .timed_by("frustums", |_, rng| timed_point(rng, 6), six)
+        .timed_by("frustums, 14 planes", |_, rng| timed_point(rng, 14), many())
+        .timed_by("frustums, 32 planes", |_, rng| timed_point(rng, 32), many())
         .op()
+}
+
+fn segment_seen(volume: &[f64], count: usize, p0: &Point, p1: &Point) -> bool {
+    let (p0, p1) = (point(p0), point(p1));
+    ask(volume, count, |v| v.intersects_segment(p0, p1), |v| v.intersects_segment(p0, p1))
+}
+
+fn timed_segment(rng: &mut inputs::Rng, count: usize) -> (Volume, Point, Point) {
+    let (six, a, b, ..) = inputs::asked(rng);
+    (inputs::with_planes(six, count), a, b)
 }
 
 fn of_segment() -> Box<dyn Op> {
@@ -93,23 +125,47 @@ fn of_segment() -> Box<dyn Op> {
     ];
     let ties = (0..16).map(|case| {
         let (planes, a, b) = inputs::near_tie(&mut inputs::Rng::at(2, case));
-        (inputs::farm_volume(&planes), inputs::floats(a), inputs::floats(b))
+        (inputs::farm_six(&planes), inputs::floats(a), inputs::floats(b))
     });
-    call!(219 gf_intersects_segment(volume: 48, p0: 3, p1: 3) -> bool {
+    let six = segments.map(|(a, b)| (CUBE, a, b)).into_iter().chain(more).chain(ties);
+    let counts = odd_counts().map(|volume| (volume, [-5.0, 5.0, 5.0], [15.0, 5.0, 5.0]));
+    // A shed that hides what has x + y above 12, as the last of 7 to 32 planes.
+    let sheds = (7..=32).map(|count| {
+        let mut more = vec![[-1.0, 0.0, 0.0, -20.0]; count - 6];
+        more[count - 7] = [-1.0, -1.0, 0.0, -12.0];
+        (Volume::with_more(CUBE, &more), [-2.0, 13.0, 5.0], [13.0, 4.0, 5.0])
+    });
+    let by_six = call!(219 gf_intersects_segment(volume: 49, p0: 3, p1: 3) -> bool {
         Ok(planes(volume).intersects_segment(point(p0), point(p1)))
+    });
+    let by_many = || {
+        call!(219 gf_intersects_segment(volume: Volume, p0: 3, p1: 3) -> bool {
+            Ok(segment_seen(volume, count_by_length(volume), p0, p1))
+        })
+    };
+    call!(219 gf_intersects_segment(volume: Volume, p0: 3, p1: 3) -> bool {
+        Ok(segment_seen(volume, held(volume)?, p0, p1))
     })
-    .fixed(segments.map(|(a, b)| (CUBE, a, b)).into_iter().chain(more).chain(ties).collect())
+    .fixed(six.map(|(six, a, b)| (Volume::of(six), a, b)).chain(counts).chain(sheds).collect())
     .drawn(|_, rng| inputs::volume_and_segment(rng))
-    .timed("frustums", |_, rng| {
-        let (volume, a, b, ..) = inputs::asked(rng);
-        (volume, a, b)
-    })
+    .timed_by("frustums", |_, rng| timed_segment(rng, 6), by_six)
+    .timed_by("frustums, 14 planes", |_, rng| timed_segment(rng, 14), by_many())
+    .timed_by("frustums, 32 planes", |_, rng| timed_segment(rng, 32), by_many())
     .op()
+}
+
+fn triangle_seen(volume: &[f64], count: usize, p0: &Point, p1: &Point, p2: &Point) -> bool {
+    planes(volume).intersects_triangle_by(point(p0), point(p1), point(p2), &rays(volume, count))
+}
+
+fn timed_triangle(rng: &mut inputs::Rng, count: usize) -> (Volume, Point, Point, Point) {
+    let (six, a, b, c, _) = inputs::asked(rng);
+    (inputs::with_planes(six, count), a, b, c)
 }
 
 fn of_triangle() -> Box<dyn Op> {
     // The cube with all rays but some pointing away.
-    let rays_at = |which: &[usize]| -> Volume {
+    let rays_at = |which: &[usize]| -> Six {
         let mut volume = CUBE;
         for (i, [x, y]) in [[0.0, 0.0], [0.0, 10.0], [10.0, 10.0], [10.0, 0.0]].into_iter().enumerate() {
             let z = if which.contains(&i) { 1.0 } else { -1.0 };
@@ -120,7 +176,7 @@ fn of_triangle() -> Box<dyn Op> {
     // Around the cube, between planes 4 and 5, and through each of these.
     let around = |z: [f64; 3]| [[-30.0, -30.0, z[0]], [60.0, -30.0, z[1]], [-30.0, 60.0, z[2]]];
     let levels = [around([5.0; 3]), around([5.0, -9.0, 5.0]), around([5.0, 5.0, 19.0]), around([1.0, 9.0, 10.0])];
-    let mut fixed: Vec<(Volume, [Point; 3])> = vec![];
+    let mut fixed: Vec<(Six, [Point; 3])> = vec![];
     for which in [&[0, 1, 2, 3][..], &[], &[0], &[1], &[2], &[3]] {
         fixed.extend(levels.map(|triangle| (rays_at(which), triangle)));
     }
@@ -140,16 +196,40 @@ fn of_triangle() -> Box<dyn Op> {
         // Behind a plane each.
         (all, [[-9.0, 5.0, 5.0], [19.0, -40.0, 5.0], [5.0, 50.0, 50.0]]),
     ]);
-    call!(220 gf_intersects_triangle(volume: 48, p0: 3, p1: 3, p2: 3) -> bool {
-        Ok(planes(volume).intersects_triangle_by(point(p0), point(p1), point(p2), &rays(volume)))
+    // Screens that hide all of the cube, of which a triangle takes no notice;
+    // its rays stand behind them.
+    let hidden = [7, 19, 32].map(|count| {
+        let more = vec![[0.0, 0.0, 1.0, 50.0]; count - 6];
+        move |&(six, triangle): &(Six, [Point; 3])| (Volume::with_more(six, &more), triangle)
+    });
+    let screened: Vec<(Volume, [Point; 3])> = hidden.iter().flat_map(|hide| fixed.iter().map(hide)).collect();
+    let counts = odd_counts().map(|volume| (volume, [[5.0; 3]; 3]));
+    let fixed = fixed.into_iter().map(|(six, triangle)| (Volume::of(six), triangle)).chain(screened).chain(counts);
+    let by_six = call!(220 gf_intersects_triangle(volume: 49, p0: 3, p1: 3, p2: 3) -> bool {
+        Ok(triangle_seen(volume, 6, p0, p1, p2))
+    });
+    let by_many = call!(220 gf_intersects_triangle(volume: Volume, p0: 3, p1: 3, p2: 3) -> bool {
+        Ok(triangle_seen(volume, count_by_length(volume), p0, p1, p2))
+    });
+    call!(220 gf_intersects_triangle(volume: Volume, p0: 3, p1: 3, p2: 3) -> bool {
+        Ok(triangle_seen(volume, held(volume)?, p0, p1, p2))
     })
-    .fixed(fixed.into_iter().map(|(volume, [a, b, c])| (volume, a, b, c)).collect())
+    .fixed(fixed.map(|(volume, [a, b, c])| (volume, a, b, c)).collect())
     .drawn(|_, rng| inputs::volume_and_triangle(rng))
-    .timed("frustums", |_, rng| {
-        let (volume, a, b, c, _) = inputs::asked(rng);
-        (volume, a, b, c)
-    })
+    .timed_by("frustums", |_, rng| timed_triangle(rng, 6), by_six)
+    .timed_by("frustums, 32 planes", |_, rng| timed_triangle(rng, 32), by_many)
     .op()
+}
+
+fn box_seen(volume: &[f64], count: usize, b: &Boxed) -> Result<bool, u32> {
+    let b = boxed(b)?;
+    Ok(ask(volume, count, |v| v.intersects_bbox(&b), |v| v.intersects_bbox(&b)))
+}
+
+fn timed_box(rng: &mut inputs::Rng, count: usize) -> (Volume, Boxed) {
+    let (six, [x, y, z], ..) = inputs::asked(rng);
+    let placed = with(inputs::rigid_placement(rng), &[(12, x), (13, y), (14, z)]);
+    (inputs::with_planes(six, count), box_of(inputs::ordinary_range(rng), placed, 0.0))
 }
 
 fn of_box() -> Box<dyn Op> {
@@ -194,25 +274,36 @@ fn of_box() -> Box<dyn Op> {
     // Planes of which the normal under the box's matrix is short or long.
     let scaled = |by: f64| std::array::from_fn(|i| CUBE[i] * by);
     let placed = box_of([2.0, 0.0, 0.0, 3.0, 1.0, 1.0], diagonal([5.0, 0.5, 0.25, 1.0]), 1.0);
-    let mut more: Vec<(Volume, Boxed)> = [2.0, 1e-11, 1e-5, 1e-200].map(|by| (scaled(by), placed)).into();
+    let mut more: Vec<(Six, Boxed)> = [2.0, 1e-11, 1e-5, 1e-200].map(|by| (scaled(by), placed)).into();
     // NaN is not empty, and no plane here looks at the least x.
     let upward = with(CUBE, &[(4, 1.0), (7, 0.0)]);
     more.extend([
         (upward, unplaced([NAN, 0.0, 0.0, 1.0, 1.0, 1.0])),
         (upward, unplaced([0.0, 0.0, 0.0, NAN, 1.0, 1.0])),
     ]);
-    call!(221 gf_intersects_bbox(volume: 48, b: 23) -> bool { Ok(planes(volume).intersects_bbox(&boxed(b)?)) })
-        .fixed(boxes.map(|b| (CUBE, b)).into_iter().chain(more).collect())
+    // A count that is none comes before a flag that is none.
+    let counts = odd_counts().flat_map(|volume| [0.0, 0.5].map(|flag| (volume, box_of(UNIT, IDENTITY, flag))));
+    // A wall at x = 6 as the last of 7 to 32 planes.
+    let walls = (7..=32).map(|count| {
+        let mut more = vec![[-1.0, 0.0, 0.0, -20.0]; count - 6];
+        more[count - 7] = [-1.0, 0.0, 0.0, -6.0];
+        (Volume::with_more(CUBE, &more), unplaced([7.0, 0.0, 0.0, 9.0, 1.0, 1.0]))
+    });
+    let fixed = boxes.map(|b| (CUBE, b)).into_iter().chain(more).map(|(six, b)| (Volume::of(six), b));
+    let scaled_boxes = |_, rng: &mut inputs::Rng| {
+        let (six, _, _, _, b) = inputs::asked(rng);
+        (Volume::of(six), b)
+    };
+    let six =
+        || call!(221 gf_intersects_bbox(volume: 49, b: 23) -> bool { Ok(planes(volume).intersects_bbox(&boxed(b)?)) });
+    let many = || call!(221 gf_intersects_bbox(volume: Volume, b: 23) -> bool { box_seen(volume, count_by_length(volume), b) });
+    call!(221 gf_intersects_bbox(volume: Volume, b: 23) -> bool { box_seen(volume, held(volume)?, b) })
+        .fixed(fixed.chain(counts).chain(walls).collect())
         .drawn(|_, rng| inputs::volume_and_box(rng))
-        .timed("frustums, scaled boxes", |_, rng| {
-            let (volume, _, _, _, b) = inputs::asked(rng);
-            (volume, b)
-        })
-        .timed("frustums, rigid boxes", |_, rng| {
-            let (volume, [x, y, z], ..) = inputs::asked(rng);
-            let placed = with(inputs::rigid_placement(rng), &[(12, x), (13, y), (14, z)]);
-            (volume, box_of(inputs::ordinary_range(rng), placed, 0.0))
-        })
+        .timed_by("frustums, scaled boxes", scaled_boxes, six())
+        .timed_by("frustums, rigid boxes", |_, rng| timed_box(rng, 6), six())
+        .timed_by("14 planes, rigid boxes", |_, rng| timed_box(rng, 14), many())
+        .timed_by("32 planes, rigid boxes", |_, rng| timed_box(rng, 32), many())
         .op()
 }
 

@@ -8,8 +8,9 @@ use verdict::frustum_calls::intersects_bbox;
 use verdict::frustum_calls::intersects_point;
 use verdict::frustum_calls::intersects_segment;
 
-// A cube: the planes that bound it, and four rays of zeros.
-const CUBE: [f64; 48] = [
+// A cube: how many planes bound it, these, and four rays of zeros.
+const CUBE: [f64; 49] = [
+    6.0,
     // x at least 0
     1.0,
     0.0,

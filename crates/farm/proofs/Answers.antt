@@ -9,8 +9,9 @@ use lib.Dec.{leb}
 use lib.ListN.{length, length-append, length-map, take, replicate}
 use lib.Seq.{take-at}
 use Rattle.number.specs.Answer.{Outcome, refused, result, unless}
+use Rattle.verdict.specs.Volume.{isCount}
 use Rattle.farm.specs.Directory.{largestFile, sectionCount, boxSections, wellFormed}
-use Rattle.farm.specs.FarmFile.{sized, allFlagged, inView, checked, farmFile, slotCount, slotOf, noBox, slots, Listing, listing, listed, farmFileCall}
+use Rattle.farm.specs.FarmFile.{volumeThere, countNumber, sized, allFlagged, inView, checked, farmFile, slotCount, slotOf, noBox, slots, Listing, listing, listed, farmFileCall}
 use Rattle.farm.specs.Lines.{decimal, linesFrom, refusedWord, refusedLine, linesOf, inserted, textRoom, Printed, printed, linesCall, isYes}
 use Rattle.farm.proofs.SectionsLeft.{as-many}
 use Rattle.farm.proofs.Slots.{length-slots}
@@ -19,34 +20,39 @@ use Rattle.farm.proofs.Texts.{length-inserted, short-decimal, short-lin
 
 -- ---- the checks of a file, one after the other
 
-abbrev chain : Bool → Bool → Bool → Bool → List Bool → Outcome (List Bool)
-chain f w s g vs = unless f (refused 1) (unless w (refused 9) (unless s (refused 10) (unless g (refused 3) (result vs))))
+abbrev chain : Bool → Bool → Bool → Bool → Bool → Bool → List Bool → Outcome (List Bool)
+chain f w v c s g vs =
+    unless f (refused 1) (unless w (refused 9) (unless v (refused 10) (unless c (refused 12) (unless s (refused 10) (unless g (refused 3) (result vs))))))
 
-all-passed : (f w s g : Bool) (ws vs : List Bool) → chain f w s g ws ≡ result vs → (w ≡ true) × (ws ≡ vs)
-all-passed true true true true ws vs e = (refl, cc)
-all-passed true true true false ws vs e = (refl, cc)
-all-passed true true false g ws vs e = (refl, cc)
-all-passed true false s g ws vs e = (cc, cc)
-all-passed false true s g ws vs e = (refl, cc)
-all-passed false false s g ws vs e = (cc, cc)
+all-passed : (f w v c s g : Bool) (ws vs : List Bool) → chain f w v c s g ws ≡ result vs → (w ≡ true) × (ws ≡ vs)
+all-passed true true true true true true ws vs e = (refl, cc)
+all-passed true true true true true false ws vs e = (refl, cc)
+all-passed true true true true false g ws vs e = (refl, cc)
+all-passed true true true false s g ws vs e = (refl, cc)
+all-passed true true false c s g ws vs e = (refl, cc)
+all-passed true false v c s g ws vs e = (cc, cc)
+all-passed false true v c s g ws vs e = (refl, cc)
+all-passed false false v c s g ws vs e = (cc, cc)
 
-small : (f w s g : Bool) (ws : List Bool) (k : ℕ) → chain f w s g ws ≡ refused k → k < 100
-small true true true true ws k e = let z : _≡_ {A = ℕ} 0 1 = cc in omega arith
-small true true true false ws k e = let z : 3 ≡ k = cc in omega arith
-small true true false g ws k e = let z : 10 ≡ k = cc in omega arith
-small true false s g ws k e = let z : 9 ≡ k = cc in omega arith
-small false w s g ws k e = let z : 1 ≡ k = cc in omega arith
+small : (f w v c s g : Bool) (ws : List Bool) (k : ℕ) → chain f w v c s g ws ≡ refused k → k < 100
+small true true true true true true ws k e = let z : _≡_ {A = ℕ} 0 1 = cc in omega arith
+small true true true true true false ws k e = let z : 3 ≡ k = cc in omega arith
+small true true true true false g ws k e = let z : 10 ≡ k = cc in omega arith
+small true true true false s g ws k e = let z : 12 ≡ k = cc in omega arith
+small true true false c s g ws k e = let z : 10 ≡ k = cc in omega arith
+small true false v c s g ws k e = let z : 9 ≡ k = cc in omega arith
+small false w v c s g ws k e = let z : 1 ≡ k = cc in omega arith
 
 module _ (b : List ℕ) where
   abbrev found : List Bool
   found = map (inView b) (boxSections b)
 
-  is : chain (leb (length b) largestFile) (wellFormed b) (sized b) (allFlagged b) found ≡ farmFile b
+  is : chain (leb (length b) largestFile) (wellFormed b) (volumeThere b) (isCount (countNumber b)) (sized b) (allFlagged b) found ≡ farmFile b
   unfolding farmFile checked
   is = refl
 
   answered : (vs : List Bool) → farmFile b ≡ result vs → (wellFormed b ≡ true) × (found ≡ vs)
-  answered vs e = all-passed (leb (length b) largestFile) (wellFormed b) (sized b) (allFlagged b) found vs (is ∙ e)
+  answered vs e = all-passed (leb (length b) largestFile) (wellFormed b) (volumeThere b) (isCount (countNumber b)) (sized b) (allFlagged b) found vs (is ∙ e)
 
   pub well-formed : (vs : List Bool) → farmFile b ≡ result vs → wellFormed b ≡ true
   well-formed vs e = answered vs e .0
@@ -57,7 +63,7 @@ module _ (b : List ℕ) where
       omega (arith, sym (ap length (answered vs e .1)) ∙ n, at-most b (well-formed vs e))
 
   small-number : (k : ℕ) → farmFile b ≡ refused k → k < 100
-  small-number k e = small (leb (length b) largestFile) (wellFormed b) (sized b) (allFlagged b) found k (is ∙ e)
+  small-number k e = small (leb (length b) largestFile) (wellFormed b) (volumeThere b) (isCount (countNumber b)) (sized b) (allFlagged b) found k (is ∙ e)
 
   -- ---- what a call with room answers
 

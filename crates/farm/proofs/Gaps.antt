@@ -6,6 +6,7 @@ use mathlib.Core.List.{List, [], _∷_, map}
 use Prim.Native.Nat.{ℕ, zero, suc, _+_, _-_, _*_, _/_, _<_, _≤_, min}
 use native.Mathlib.Omega.{arith}
 use native.Mathlib.Nat.{mul-div-le}
+use borrow.Author.Tests.{leb-true}
 use lib.Dec.{eqb, leb}
 use lib.ListN.{length, getD, take, drop, length-take, length-drop}
 use lib.Seq.{ext-getD, getD-take, getD-drop}
@@ -14,11 +15,11 @@ use Rattle.number.specs.Answer.{Outcome, refused, result, unless}
 use Rattle.number.specs.Bytes.{littleEndian, wordAt, numberAt, numbersAt}
 use Rattle.verdict.specs.BBox.{boxOf as loadedBox}
 use Rattle.verdict.specs.BBoxCalls.{flagged}
-use Rattle.verdict.specs.Volume.{volumeLength, planesOf}
+use Rattle.verdict.specs.Volume.{fewestPlanes, volumeLength, wholePart, isCount, planesOf}
 use Rattle.verdict.specs.Frustum.{boxOf}
 use Rattle.farm.specs.declared.directory.Section.{Section}
 use Rattle.farm.specs.Directory.{largestFile, fewestSections, mostSections, sectionCount, sectionAt, sectionsFrom, volumeSection, boxSections, directoryEnd, endOf, numbersOf, inOrder, wellFormed}
-use Rattle.farm.specs.FarmFile.{every, sized, allFlagged, inView, checked, farmFile}
+use Rattle.farm.specs.FarmFile.{every, volumeThere, countNumber, planeCount, sized, allFlagged, inView, checked, farmFile}
 use Rattle.farm.specs.Reading.{AgreeOutsideGaps, GapsUnread, AnsweredApart}
 use Rattle.farm.proofs.Placed.{at-least, placed, apart}
 use Rattle.farm.proofs.Answers.{well-formed}
@@ -109,11 +110,8 @@ module _ (b c : List ℕ) (a : AgreeOutsideGaps b c) where
     same-volume : volumeSection b ≡ volumeSection c
     same-volume = same-section 0 (omega (arith, two))
 
-    same-sizes : sized b ≡ sized c
-    unfolding sized
-    same-sizes =
-        ap (λ (s : Section). eqb (s .size) (8 * volumeLength) && every (λ s. eqb (s .size) (8 * 23)) (boxSections b)) same-volume
-        ∙ ap (λ (ss : List Section). eqb (volumeSection c .size) (8 * volumeLength) && every (λ s. eqb (s .size) (8 * 23)) ss) same-boxes
+    same-there : volumeThere b ≡ volumeThere c
+    same-there = ap (λ (s : Section). leb (8 * volumeLength fewestPlanes) (s .size)) same-volume
 
     numbers-same : (k : ℕ) → k < count → numbersOf b (sectionAt b k) ≡ numbersOf c (sectionAt b k)
     numbers-same k h =
@@ -129,30 +127,51 @@ module _ (b c : List ℕ) (a : AgreeOutsideGaps b c) where
     volume-same : numbersOf b (volumeSection b) ≡ numbersOf c (volumeSection c)
     volume-same = numbers-same 0 (omega (arith, two)) ∙ ap (numbersOf c) same-volume
 
-    view-same : (k : ℕ) → k < count → inView b (sectionAt b k) ≡ inView c (sectionAt b k)
-    view-same k h =
-        ap (λ (v : List Float). boxOf (planesOf v) (loadedBox (numbersOf b (sectionAt b k)))) volume-same
-        ∙ ap (λ (x : List Float). boxOf (planesOf (numbersOf c (volumeSection c))) (loadedBox x)) (numbers-same k h)
+    module _ (v : volumeThere b ≡ true) where
+      same-number : countNumber b ≡ countNumber c
+      same-number =
+          let s = volumeSection b in
+          let there = leb-true (8 * volumeLength fewestPlanes) (s .size) v in
+          ap (ofBits binary64) (same-word b c (a .size) 8 (s .offset) (λ j p q. a .sections 0 j (omega (arith, two)) p (omega (arith, q, there))))
+          ∙ ap (λ (t : Section). numberAt c (t .offset)) same-volume
 
-    same-views : map (inView b) (boxSections b) ≡ map (inView c) (boxSections c)
-    same-views = same-map b count (inView b) (inView c) view-same 1 (count - 1) (omega (arith, two)) ∙ ap (map (inView c)) same-boxes
+      same-sizes : sized b ≡ sized c
+      unfolding sized
+      same-sizes =
+          ap (λ (x : Float). eqb (volumeSection b .size) (8 * volumeLength (wholePart x)) && every (λ s. eqb (s .size) (8 * 23)) (boxSections b)) same-number
+          ∙ ap (λ (s : Section). eqb (s .size) (8 * volumeLength (planeCount c)) && every (λ s. eqb (s .size) (8 * 23)) (boxSections b)) same-volume
+          ∙ ap (λ (ss : List Section). eqb (volumeSection c .size) (8 * volumeLength (planeCount c)) && every (λ s. eqb (s .size) (8 * 23)) ss) same-boxes
 
-  abbrev answer : Bool → Bool → Bool → List Bool → Outcome (List Bool)
-  answer f s g vs = unless f (refused 9) (unless s (refused 10) (unless g (refused 3) (result vs)))
+      view-same : (k : ℕ) → k < count → inView b (sectionAt b k) ≡ inView c (sectionAt b k)
+      view-same k h =
+          ap (λ (x : Float). boxOf (planesOf (numbersOf b (volumeSection b)) (wholePart x)) (loadedBox (numbersOf b (sectionAt b k)))) same-number
+          ∙ ap (λ (v : List Float). boxOf (planesOf v (planeCount c)) (loadedBox (numbersOf b (sectionAt b k)))) volume-same
+          ∙ ap (λ (x : List Float). boxOf (planesOf (numbersOf c (volumeSection c)) (planeCount c)) (loadedBox x)) (numbers-same k h)
 
-  same-checked : (f : Bool) → wellFormed b ≡ f → checked b ≡ checked c
+      same-views : map (inView b) (boxSections b) ≡ map (inView c) (boxSections c)
+      same-views = same-map b count (inView b) (inView c) view-same 1 (count - 1) (omega (arith, two)) ∙ ap (map (inView c)) same-boxes
+
+  abbrev behind : Bool → Bool → Bool → List Bool → Outcome (List Bool)
+  behind n s g vs = unless n (refused 12) (unless s (refused 10) (unless g (refused 3) (result vs)))
+
+  same-behind : wellFormed b ≡ true → volumeThere b ≡ true
+      → behind (isCount (countNumber b)) (sized b) (allFlagged b) (map (inView b) (boxSections b)) ≡ behind (isCount (countNumber c)) (sized c) (allFlagged c) (map (inView c) (boxSections c))
+  same-behind w v =
+      ap (λ (x : Float). behind (isCount x) (sized b) (allFlagged b) (map (inView b) (boxSections b))) (same-number w v)
+      ∙ ap (λ (s : Bool). behind (isCount (countNumber c)) s (allFlagged b) (map (inView b) (boxSections b))) (same-sizes w v)
+      ∙ ap (λ (g : Bool). behind (isCount (countNumber c)) (sized c) g (map (inView b) (boxSections b))) (same-flags w)
+      ∙ ap (behind (isCount (countNumber c)) (sized c) (allFlagged c)) (same-views w v)
+
+  same-checked : (f : Bool) → wellFormed b ≡ f → (v : Bool) → (f ≡ true → volumeThere b ≡ v) → checked b ≡ checked c
   unfolding checked
-  same-checked false w = rw (w, sym same-form ∙ w)
-  same-checked true w =
-      ap (λ (s : Bool). answer (wellFormed b) s (allFlagged b) (map (inView b) (boxSections b))) (same-sizes w)
-      ∙ ap (λ (g : Bool). answer (wellFormed b) (sized c) g (map (inView b) (boxSections b))) (same-flags w)
-      ∙ ap (answer (wellFormed b) (sized c) (allFlagged c)) (same-views w)
-      ∙ ap (λ (f : Bool). answer f (sized c) (allFlagged c) (map (inView c) (boxSections c))) same-form
+  same-checked false w v h = rw (w, sym same-form ∙ w)
+  same-checked true w false h = rw (w, sym same-form ∙ w, h refl, sym (same-there w) ∙ h refl)
+  same-checked true w true h = rw (w, sym same-form ∙ w, h refl, sym (same-there w) ∙ h refl) (same-behind w (h refl))
 
   same-answer : farmFile b ≡ farmFile c
   unfolding farmFile
   same-answer =
-      ap (λ (o : Outcome (List Bool)). unless (leb (length b) largestFile) (refused 1) o) (same-checked (wellFormed b) refl)
+      ap (λ (o : Outcome (List Bool)). unless (leb (length b) largestFile) (refused 1) o) (same-checked (wellFormed b) refl (volumeThere b) (λ q. refl))
       ∙ ap (λ (n : ℕ). unless (leb n largestFile) (refused 1) (checked c)) (a .size)
 
 pub gaps-unread : GapsUnread

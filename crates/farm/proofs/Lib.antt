@@ -1,6 +1,7 @@
 -- The laws that the proofs of this crate, and of the crates above it, cite.
 pub mod SectionsLeft
 pub mod Placed
+pub mod PlaneCounts
 pub mod Slots
 pub mod Answers
 pub mod Gaps

@@ -11,7 +11,7 @@ use Rattle.verdict.specs.Volume.{volumeLength}
 use Rattle.verdict.specs.BBoxCalls.{flagged}
 use Rattle.farm.specs.declared.directory.Section.{Section}
 use Rattle.farm.specs.Directory.{fewestSections, mostSections, sectionCount, sectionAt, sectionsFrom, volumeSection, boxSections, directoryEnd, endOf, numbersOf, inOrder, wellFormed}
-use Rattle.farm.specs.FarmFile.{every, sized, allFlagged}
+use Rattle.farm.specs.FarmFile.{every, planeCount, sized, allFlagged}
 
 -- ---- a conjunction that holds
 
@@ -120,13 +120,13 @@ module _ (b : List ℕ) (w : wellFormed b ≡ true) where
 -- ---- the sizes and the flags
 
 module _ (b : List ℕ) (s : sized b ≡ true) where
-  pub volume-sized : volumeSection b .size ≡ 8 * volumeLength
+  pub volume-sized : volumeSection b .size ≡ 8 * volumeLength (planeCount b)
   unfolding sized
-  volume-sized = eqb-true _ _ (first (eqb (volumeSection b .size) (8 * volumeLength)) _ s)
+  volume-sized = eqb-true _ _ (first (eqb (volumeSection b .size) (8 * volumeLength (planeCount b))) _ s)
 
   pub box-sized : (i : ℕ) → 0 < i → i < sectionCount b → sectionAt b i .size ≡ 8 * 23
   unfolding sized
-  box-sized i p h = eqb-true _ _ (each-box b (λ s. eqb (s .size) (8 * 23)) (sectionCount b) i (second (eqb (volumeSection b .size) (8 * volumeLength)) _ s) p h)
+  box-sized i p h = eqb-true _ _ (each-box b (λ s. eqb (s .size) (8 * 23)) (sectionCount b) i (second (eqb (volumeSection b .size) (8 * volumeLength (planeCount b))) _ s) p h)
 
 pub box-flagged : (b : List ℕ) → allFlagged b ≡ true → (i : ℕ) → 0 < i → i < sectionCount b → flagged (numbersOf b (sectionAt b i)) ≡ true
 unfolding allFlagged

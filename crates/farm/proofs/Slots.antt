@@ -6,18 +6,34 @@ use Prim.Native.Nat.{ℕ, suc, _+_, _-_, _*_, _/_, _<_, _≤_}
 use native.Mathlib.Omega.{arith}
 use lib.ListN.{length, length-append, length-map, length-replicate, replicate, set}
 use lib.Seq.{set-at}
+use borrow.Author.Tests.{eq-eqb}
 use lib.Ieee.{Float}
-use Rattle.number.specs.Bytes.{numbersAt, loaded}
-use Rattle.number.proofs.Words.{as-many, all-there}
+use Rattle.number.specs.Answer.{Outcome, refused, result, unless}
+use Rattle.number.specs.Slice.{at}
+use Rattle.number.specs.Bytes.{numberAt, numbersAt, loaded}
+use Rattle.number.proofs.Words.{as-many, number-at, all-there}
 use Rattle.verdict.specs.BBox.{boxOf as loadedBox}
 use Rattle.verdict.specs.BBoxCalls.{flagged}
-use Rattle.verdict.specs.Volume.{volumeLength, planesOf}
+use Rattle.verdict.specs.Volume.{fewestPlanes, mostPlanes, volumeLength, countOf, counting, planesHeld, planesOf}
 use Rattle.verdict.specs.Frustum.{boxOf}
+use Rattle.verdict.specs.FrustumCalls.{intersectsBoxCall}
+use Rattle.verdict.proofs.PlaneCount.{a-count, count-within}
+use Rattle.verdict.proofs.PlanesHeld.{all-held}
 use Rattle.farm.specs.declared.directory.Section.{Section}
-use Rattle.farm.specs.Directory.{sectionCount, sectionAt, sectionsFrom, volumeSection, endOf, numbersOf, wellFormed}
-use Rattle.farm.specs.FarmFile.{sized, allFlagged, inView, slotCount, slotOf, noBox, slots}
+use Rattle.farm.specs.Directory.{sectionCount, sectionAt, sectionsFrom, volumeSection, endOf, numbersOf}
+use Rattle.farm.specs.FarmFile.{countNumber, planeCount, inView, slotCount, slotOf, slotFor, noBox, slots}
+use Rattle.farm.specs.Steps.{Ready}
 use Rattle.farm.proofs.SectionsLeft.{as-many as as-many-sections, last-section}
 use Rattle.farm.proofs.Placed.{at-least, placed, volume-sized, box-sized, box-flagged}
+
+-- a box whose record and flag are right, by a view that holds n planes
+answered : (v x : List Float) (n : ℕ) → result n ≡ planesHeld v true → length x ≡ 23 → flagged x ≡ true → intersectsBoxCall v x ≡ result (boxOf (planesOf v n) (loadedBox x))
+unfolding intersectsBoxCall
+answered v x n e q f =
+    let g = eq-eqb (length x) 23 q in
+    ap (λ (t : Bool). counting (planesHeld v t) (λ k. unless (flagged x) (refused 3) (result (boxOf (planesOf v k) (loadedBox x))))) g
+    ∙ ap (λ (o : Outcome ℕ). counting o (λ k. unless (flagged x) (refused 3) (result (boxOf (planesOf v k) (loadedBox x))))) (sym e)
+    ∙ ap (λ (t : Bool). unless t (refused 3) (result (boxOf (planesOf v n) (loadedBox x)))) f
 
 pub none-judged : (n : ℕ) → n ≡ slotCount → replicate n noBox ≡ slots []
 none-judged n e = ap (λ (k : ℕ). replicate k noBox) e
@@ -57,39 +73,60 @@ module _ (b : List ℕ) where
       (sym (ap (map (inView b)) (last-section b 1 n) ∙ map-append (inView b) (sectionsFrom b 1 n) (sectionAt b (1 + n) ∷ [])
       ∙ ap (λ (k : ℕ). judged n ++ (inView b (sectionAt b k) ∷ [])) z))
 
--- ---- the box of a section that was read
+-- ---- a file that has passed every check
 
-module _ (b : List ℕ) (s : sized b ≡ true) where
-  pub volume-length : length (numbersOf b (volumeSection b)) ≡ volumeLength
-  volume-length = as-many b _ _ ∙ ap (λ (n : ℕ). n / 8) (volume-sized b s)
+module _ (b : List ℕ) (r : Ready b) where
+  abbrev volume : List Float
+  volume = numbersOf b (volumeSection b)
+
+  said : result (planeCount b) ≡ countOf (countNumber b)
+  said = a-count (countNumber b) (planeCount b) (r .count) refl
+
+  pub within : (fewestPlanes ≤ planeCount b) × (planeCount b ≤ mostPlanes)
+  within = count-within (countNumber b) (planeCount b) (sym said)
+
+  pub volume-numbers : volumeSection b .size / 8 ≡ volumeLength (planeCount b)
+  volume-numbers = let e = volume-sized b (r .sizes) in omega (arith, e)
+
+  pub volume-length : length volume ≡ volumeLength (planeCount b)
+  volume-length = as-many b _ _ ∙ volume-numbers
+
+  count-first : at volume 0 ≡ countNumber b
+  count-first =
+      number-at b (volumeSection b .offset) (volumeSection b .size / 8) 0 (omega (arith, volume-numbers))
+      ∙ ap (numberAt b) (omega arith)
+
+  -- the record holds the planes that its count says
+  held : result (planeCount b) ≡ planesHeld volume true
+  held =
+      all-held volume true (omega (arith, volume-length, within)) refl (planeCount b)
+      (said ∙ ap countOf (sym count-first)) volume-length
+
+  -- the volume's numbers, by what was put into room for as many
+  pub volume-is : (sec : Section) → sec ≡ volumeSection b → (v : List Float) → length v ≡ volumeLength (planeCount b) → loaded b (sec .offset) v ≡ volume
+  volume-is sec q v e =
+      let size : sec .size ≡ 8 * volumeLength (planeCount b) = ap (λ (t : Section). t .size) q ∙ volume-sized b (r .sizes) in
+      let few = at-least b (r .formed) in
+      let ends = subst (λ (t : Section). endOf t ≤ length b) (sym q) (placed b (r .formed) 0 (omega arith) .1) in
+      all-there b (sec .offset) v (omega (arith, ends, size, e))
+      ∙ ap (numbersAt b (sec .offset)) (e ∙ sym volume-numbers ∙ ap (λ (t : Section). t .size / 8) (sym q)) ∙ ap (numbersOf b) q
 
   module _ (i : ℕ) (h : i + 1 < sectionCount b) (sec : Section) (q : sec ≡ sectionAt b (i + 1)) where
-    pub size-is : sec .size ≡ 8 * 23
-    size-is = ap (λ (t : Section). t .size) q ∙ box-sized b s (i + 1) (omega arith) h
+    size-is : sec .size ≡ 8 * 23
+    size-is = ap (λ (t : Section). t .size) q ∙ box-sized b (r .sizes) (i + 1) (omega arith) h
 
-    numbers-are : numbersOf b sec ≡ numbersAt b (sec .offset) 23
-    numbers-are = ap (λ (n : ℕ). numbersAt b (sec .offset) (n / 8)) size-is
+    numbers-are : numbersAt b (sec .offset) 23 ≡ numbersOf b (sectionAt b (i + 1))
+    numbers-are = sym (ap (λ (n : ℕ). numbersAt b (sec .offset) (n / 8)) size-is) ∙ ap (numbersOf b) q
 
-    pub inside : wellFormed b ≡ true → sec .offset + 8 * 23 ≤ length b
-    inside w =
-        let e = subst (λ (t : Section). endOf t ≤ length b) (sym q) (placed b w (i + 1) h .1) in
+    pub inside : sec .offset + 8 * 23 ≤ length b
+    inside =
+        let e = subst (λ (t : Section). endOf t ≤ length b) (sym q) (placed b (r .formed) (i + 1) h .1) in
         omega (arith, e, size-is)
 
-    pub is-flagged : allFlagged b ≡ true → flagged (numbersAt b (sec .offset) 23) ≡ true
-    is-flagged f = ap flagged (sym numbers-are ∙ ap (numbersOf b) q) ∙ box-flagged b f (i + 1) (omega arith) h
-
-    pub slot-is : (v : List Float) (x : ℕ) → v ≡ numbersOf b (volumeSection b)
-        → x ≡ slotOf (boxOf (planesOf v) (loadedBox (numbersAt b (sec .offset) 23))) → x ≡ slotOf (inView b (sectionAt b (i + 1)))
+    -- the slot of the box, by what `intersects_bbox` answers
+    pub slot-is : (v : List Float) (x : ℕ) → v ≡ volume → x ≡ slotFor (intersectsBoxCall v (numbersAt b (sec .offset) 23)) → x ≡ slotOf (inView b (sectionAt b (i + 1)))
     slot-is v x e p =
-        p ∙ ap (λ (t : List Float). slotOf (boxOf (planesOf t) (loadedBox (numbersAt b (sec .offset) 23)))) e
-        ∙ ap (λ (t : List Float). slotOf (boxOf (planesOf (numbersOf b (volumeSection b))) (loadedBox t))) (sym numbers-are)
-        ∙ ap (λ (t : Section). slotOf (inView b t)) q
-
--- the volume's numbers, by what was put into room for as many
-pub volume-is : (b : List ℕ) → wellFormed b ≡ true → sized b ≡ true → (sec : Section) → sec ≡ volumeSection b → (v : List Float) → length v ≡ volumeLength
-    → loaded b (sec .offset) v ≡ numbersOf b (volumeSection b)
-volume-is b w s sec q v e =
-    let size : sec .size ≡ 8 * volumeLength = ap (λ (t : Section). t .size) q ∙ volume-sized b s in
-    let few = at-least b w in
-    let ends = subst (λ (t : Section). endOf t ≤ length b) (sym q) (placed b w 0 (omega arith) .1) in
-    all-there b (sec .offset) v (omega (arith, ends, size, e)) ∙ ap (numbersAt b (sec .offset)) (e ∙ sym (ap (λ (n : ℕ). n / 8) size)) ∙ ap (numbersOf b) q
+        let n = numbersOf b (sectionAt b (i + 1)) in
+        let size : length n ≡ 23 = ap length (sym numbers-are) ∙ as-many b (sec .offset) 23 in
+        p ∙ ap (λ (t : List Float). slotFor (intersectsBoxCall t (numbersAt b (sec .offset) 23))) e ∙ ap (λ (t : List Float). slotFor (intersectsBoxCall volume t)) numbers-are
+        ∙ ap slotFor (answered volume n (planeCount b) held size (box-flagged b (r .flags) (i + 1) (omega arith) h))

@@ -4,10 +4,12 @@ use mathlib.Core.Bool.{Bool, true, cond, _&&_}
 use mathlib.Core.List.{List, [], _∷_, _++_, map}
 use lib.Dec.{eqb, leb}
 use lib.ListN.{length, replicate}
+use lib.Ieee.{Float}
+use Rattle.number.specs.Bytes.{numberAt}
 use Rattle.number.specs.Answer.{Outcome, refused, result, unless, numberOf}
 use Rattle.verdict.specs.BBox.{boxOf as loadedBox}
 use Rattle.verdict.specs.BBoxCalls.{flagged}
-use Rattle.verdict.specs.Volume.{volumeLength, planesOf}
+use Rattle.verdict.specs.Volume.{fewestPlanes, volumeLength, wholePart, isCount, planesOf}
 use Rattle.verdict.specs.Frustum.{boxOf}
 use Rattle.farm.specs.declared.directory.Section.{Section}
 use Rattle.farm.specs.declared.farm_file.Counted.{Counted}
@@ -19,10 +21,25 @@ unfoldable pub every : (Section → Bool) → List Section → Bool
 every test [] = true
 every test (s ∷ ss) = test s && every test ss
 
+-- ---- the volume: "a volume section below 49 numbers is 10, then 12 is tested, then 10 for every other length"
+
+-- it has the numbers of the fewest planes at least
+abbrev pub volumeThere : List ℕ → Bool
+volumeThere b = leb (8 * volumeLength fewestPlanes) (volumeSection b .size)
+
+-- the number in front of it, and how many planes that says there are
+abbrev pub countNumber : List ℕ → Float
+countNumber b = numberAt b (volumeSection b .offset)
+
+abbrev pub planeCount : List ℕ → ℕ
+planeCount b = wholePart (countNumber b)
+
 -- no "section length differs from its record"
 unfoldable pub sized : List ℕ → Bool
 unfolding every
-sized b = eqb (volumeSection b .size) (8 * volumeLength) && every (λ s. eqb (s .size) (8 * 23)) (boxSections b)
+sized b = eqb (volumeSection b .size) (8 * volumeLength (planeCount b)) && every (λ s. eqb (s .size) (8 * 23)) (boxSections b)
+
+-- ---- the boxes
 
 -- the flag of every box is 0 or 1
 unfoldable pub allFlagged : List ℕ → Bool
@@ -31,12 +48,18 @@ allFlagged b = every (λ s. flagged (numbersOf b s)) (boxSections b)
 
 -- whether the box of a section is in view: the verdict of `intersects_bbox`
 abbrev pub inView : List ℕ → Section → Bool
-inView b s = boxOf (planesOf (numbersOf b (volumeSection b))) (loadedBox (numbersOf b s))
+inView b s = boxOf (planesOf (numbersOf b (volumeSection b)) (planeCount b)) (loadedBox (numbersOf b s))
+
+-- ---- the checks
 
 -- a file that is not too large, by its checks in their order: each is made of the whole file before the next
 unfoldable pub checked : List ℕ → Outcome (List Bool)
 unfolding sized allFlagged
-checked b = unless (wellFormed b) (refused 9) (unless (sized b) (refused 10) (unless (allFlagged b) (refused 3) (result (map (inView b) (boxSections b)))))
+checked b =
+    unless (wellFormed b) (refused 9)
+    (unless (volumeThere b) (refused 10)
+    (unless (isCount (countNumber b)) (refused 12)
+    (unless (sized b) (refused 10) (unless (allFlagged b) (refused 3) (result (map (inView b) (boxSections b)))))))
 
 -- any file: "1 if the file exceeds 65,536 bytes"
 unfoldable pub farmFile : List ℕ → Outcome (List Bool)
@@ -79,7 +102,7 @@ abbrev pub listed : Outcome (List Bool) → List ℕ → Listing
 listed (refused k) out = listing (refused k) out
 listed (result vs) out = listing (result (length vs)) (slots vs)
 
--- "1, 2, then 9, 10, 3": 2 where there are not as many slots
+-- "1, 2, then 9", 10, 12, 10 and 3: 2 where there are not as many slots
 unfoldable pub farmFileCall : List ℕ → List ℕ → Listing
 unfolding checked
 farmFileCall b out =

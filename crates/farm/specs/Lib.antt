@@ -3,3 +3,4 @@ pub mod Directory
 pub mod FarmFile
 pub mod Reading
 pub mod Lines
+pub mod Steps

@@ -5,7 +5,9 @@ ghost use Rattle.farm.specs.FarmFile.{listing, countOf, farmFileCall};
 use crate::directory::is_well_formed;
 use crate::sections::are_flagged;
 use crate::sections::are_sized;
+use crate::sections::has_volume;
 use crate::sections::judge;
+use crate::sections::plane_count;
 use number::answer::Refusal;
 use number::bytes::word_32;
 
@@ -48,12 +50,19 @@ pub fn farm_file(file: &[u8], out: &mut [u32]) -> Counted
     if !is_well_formed(file) {
         return Counted::Refused(Refusal::Directory);
     }
-    if !are_sized(file) {
+    if !has_volume(file) {
+        return Counted::Refused(Refusal::SectionLength);
+    }
+    let planes = plane_count(file);
+    if planes == 0 {
+        return Counted::Refused(Refusal::PlaneCount);
+    }
+    if !are_sized(file, planes) {
         return Counted::Refused(Refusal::SectionLength);
     }
     if !are_flagged(file) {
         return Counted::Refused(Refusal::Kind);
     }
-    judge(file, out);
+    judge(file, planes, out);
     Counted::Boxes(word_32(file, 0) - 1)
 }

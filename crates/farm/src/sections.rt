@@ -6,12 +6,11 @@ ghost use Prim.Native.Nat.{_+_, _*_, _≤_};
 ghost use lib.ListN.{length, replicate};
 ghost use Rattle.number.specs.Answer.{verdictOf};
 ghost use Rattle.number.specs.Bytes.{numbersAt};
-ghost use Rattle.verdict.specs.BBox.{boxOf as loadedBox};
-ghost use Rattle.verdict.specs.BBoxCalls.{flagged};
-ghost use Rattle.verdict.specs.Volume.{volumeLength, planesOf};
-ghost use Rattle.verdict.specs.Frustum.{boxOf};
+ghost use Rattle.verdict.specs.FrustumCalls.{intersectsBoxCall};
+ghost use Rattle.verdict.specs.Volume.{mostPlanes, volumeLength};
 ghost use Rattle.farm.specs.Directory.{wellFormed, volumeSection, boxSections, numbersOf};
-ghost use Rattle.farm.specs.FarmFile.{sized, allFlagged, inView, slotCount, slotOf, slotFor, noBox, slots};
+ghost use Rattle.farm.specs.FarmFile.{volumeThere, countNumber, planeCount, sized, allFlagged, inView, slotCount, slotFor, noBox, slots};
+ghost use Rattle.farm.specs.Steps.{Ready, saidBy};
 use crate::directory::section_at;
 use number::answer::Verdict;
 use number::bytes::load;
@@ -19,11 +18,15 @@ use number::bytes::number_at;
 use number::bytes::word_32;
 use verdict::bbox::is_flag;
 use verdict::frustum_calls::intersects_bbox;
+use verdict::volume::Counted;
+use verdict::volume::FEWEST_PLANES;
+use verdict::volume::count_of;
+use verdict::volume::volume_length;
 
-// 48 numbers of 8 bytes.
-const VOLUME_SIZE: u32 = 384;
+// The bytes of a number.
+const NUMBER_SIZE: usize = 8;
 
-// 23 numbers.
+// The bytes of a box, 23 numbers.
 const BOX_SIZE: u32 = 184;
 
 // Where the flag, the last of a box's numbers, stands among its bytes.
@@ -31,13 +34,33 @@ const FLAG_START: usize = 176;
 
 const NO_BOX: u32 = 4294967295;
 
+// Whether the volume's section has the numbers of the fewest planes at least.
+pub(crate) fn has_volume(file: &[u8]) -> bool
+    ensures { λ r. ⌜ r ≡ volumeThere (now (file .entry)) ⌝ }
+{
+    let size = section_at(file, 0).size as usize;
+    NUMBER_SIZE * volume_length(FEWEST_PLANES) <= size
+}
+
+// How many planes the number in front of the volume says there are; 0 where it is no count.
+pub(crate) fn plane_count(file: &[u8]) -> u32
+    ensures { λ r. ⌜ r ≡ saidBy (countNumber (now (file .entry))) ⌝ }
+{
+    let start = section_at(file, 0).offset as usize;
+    match count_of(number_at(file, start)) {
+        Counted::Planes(count) => count,
+        Counted::Refused(_) => 0,
+    }
+}
+
 // Whether every section has as many bytes as its record.
-pub(crate) fn are_sized(file: &[u8]) -> bool
-    requires { ⌜ wellFormed (now file) ≡ true ⌝ }
+pub(crate) fn are_sized(file: &[u8], planes: u32) -> bool
+    requires { ⌜ (wellFormed (now file) ≡ true) × (planes ≡ planeCount (now file)) ⌝ }
     ensures { λ r. ⌜ r ≡ sized (now (file .entry)) ⌝ }
 {
     let count = word_32(file, 0) as usize;
-    if section_at(file, 0).size != VOLUME_SIZE {
+    let size = section_at(file, 0).size as usize;
+    if size != NUMBER_SIZE * volume_length(planes) {
         return false;
     }
     let mut i: usize = 1;
@@ -80,8 +103,8 @@ fn slot(verdict: Verdict) -> u32
 
 // The slot of the box that starts at a place.
 fn judged(volume: &[f64], file: &[u8], start: usize) -> u32
-    requires { ⌜ (length (now volume) ≡ volumeLength) × (start + 8 * 23 ≤ length (now file)) × (flagged (numbersAt (now file) start 23) ≡ true) ⌝ }
-    ensures { λ r. ⌜ r ≡ slotOf (boxOf (planesOf (now (volume .entry))) (loadedBox (numbersAt (now (file .entry)) start 23))) ⌝ }
+    requires { ⌜ start + 8 * 23 ≤ length (now file) ⌝ }
+    ensures { λ r. ⌜ r ≡ slotFor (intersectsBoxCall (now (volume .entry)) (numbersAt (now (file .entry)) start 23)) ⌝ }
 {
     let mut numbers = [0.0f64; 23];
     load(file, start, &mut numbers);
@@ -101,7 +124,7 @@ fn clear(out: &mut [u32])
 
 // The slots of all boxes, by the numbers of the volume.
 fn judge_boxes(volume: &[f64], file: &[u8], out: &mut [u32])
-    requires { ⌜ (wellFormed (now file) ≡ true) × (sized (now file) ≡ true) × (allFlagged (now file) ≡ true) ⌝ }
+    requires { ⌜ Ready (now file) ⌝ }
     requires { ⌜ (now volume ≡ numbersOf (now file) (volumeSection (now file))) × (length (now out) ≡ slotCount) ⌝ }
     ensures { λ _. ⌜ now (out .exit) ≡ slots (map (inView (now (file .entry))) (boxSections (now (file .entry)))) ⌝ }
 {
@@ -115,13 +138,25 @@ fn judge_boxes(volume: &[f64], file: &[u8], out: &mut [u32])
     }
 }
 
-// The slots of all boxes of a file.
-pub(crate) fn judge(file: &[u8], out: &mut [u32])
-    requires { ⌜ (wellFormed (now file) ≡ true) × (sized (now file) ≡ true) × (allFlagged (now file) ≡ true) × (length (now out) ≡ slotCount) ⌝ }
+// The slots of all boxes of a file with so many planes, by the volume's numbers in front of a room.
+fn judge_in(room: &mut [f64], file: &[u8], planes: u32, out: &mut [u32])
+    requires { ⌜ Ready (now file) ⌝ }
+    requires { ⌜ (planes ≡ planeCount (now file)) × (volumeLength mostPlanes ≤ length (now room)) × (length (now out) ≡ slotCount) ⌝ }
     ensures { λ _. ⌜ now (out .exit) ≡ slots (map (inView (now (file .entry))) (boxSections (now (file .entry)))) ⌝ }
 {
-    let mut volume = [0.0f64; 48];
+    let size = volume_length(planes);
     let start = section_at(file, 0).offset as usize;
-    load(file, start, &mut volume);
-    judge_boxes(&volume, file, out);
+    load(file, start, &mut room[..size]);
+    judge_boxes(&room[..size], file, out);
+}
+
+// The slots of all boxes of a file with so many planes.
+pub(crate) fn judge(file: &[u8], planes: u32, out: &mut [u32])
+    requires { ⌜ Ready (now file) ⌝ }
+    requires { ⌜ (planes ≡ planeCount (now file)) × (length (now out) ≡ slotCount) ⌝ }
+    ensures { λ _. ⌜ now (out .exit) ≡ slots (map (inView (now (file .entry))) (boxSections (now (file .entry)))) ⌝ }
+{
+    // room for the most planes
+    let mut room = [0.0f64; 153];
+    judge_in(&mut room, file, planes, out);
 }

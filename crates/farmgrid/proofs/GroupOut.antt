@@ -69,7 +69,7 @@ module _ (B : WholeBox) (Bs : List WholeBox) {last : List Float} (S : Stands las
       record { range = H .range-is; matrix = H .matrix-is; low = H .low-size; high = H .high-size; some = H .some; placement = H .placement }
 
   abbrev verdict : List Float → Bool
-  verdict s = inView (planesOf v) (boxOf s)
+  verdict s = inView (planesOf v (W .count)) (boxOf s)
 
   -- a box of the list lies inside it
   module _ {C : WholeBox} (among : (u : Bool) (j : ℕ) → Coordinate j (extentOf C u j) (B ∷ Bs)) where
@@ -84,7 +84,7 @@ module _ (B : WholeBox) (Bs : List WholeBox) {last : List Float} (S : Stands las
         let brings : T (verdict s) → T (verdict last) =
         λ t. box-reaches wide (W .planes) .1 (every-of (reaches-as-well (S .holds .placement) (h .box .grid .placement) least greatest) (W .planes)
         (box-reaches (grid-wide (h .box)) (W .planes) .0 t)) in
-        box-answer v s (W .numbers) (h .numbers) (is-true (flagged s) (h .flag)) ∙ ap result (no-as-well (verdict s) (verdict last) brings e)
+        box-answer v W s (h .numbers) (is-true (flagged s) (h .flag)) ∙ ap result (no-as-well (verdict s) (verdict last) brings e)
 
   members-out : verdict last ≡ false → {ss : List (List Float)} {Cs : List WholeBox} → ((j : ℕ) (z : ℤ) → Coordinate j z Cs → Coordinate j z (B ∷ Bs))
       → BoxRecords ss Cs → EachRecord (λ s. intersectsBoxCall v s ≡ result false) ss
@@ -95,7 +95,7 @@ pub group-out : GroupOut
 group-out ss B Bs last v Ps h l W =
     let S = group-stands h l in
     record {
-      verdict = inView (planesOf v) (boxOf last);
-      answered = box-answer v last (W .numbers) (S .numbers) (S .flag);
+      verdict = inView (planesOf v (W .count)) (boxOf last);
+      answered = box-answer v W last (S .numbers) (S .flag);
       members = λ e. members-out B Bs S W e (λ j z c. c) h;
     }

@@ -22,14 +22,15 @@ pub mod Span
 pub mod EveryPlane
 pub mod ExactPoints
 pub mod Segment
-pub mod MorePlanes
 -- boxes
 pub mod BoxReach
 pub mod BoxPlane
 pub mod BoxInView
--- the verdicts on records
+-- the verdicts on records, and with a plane more
+pub mod Counts
 pub mod Answers
 pub mod Verdicts
+pub mod MorePlanes
 -- surveys
 pub mod Survey
 -- turns

@@ -84,17 +84,17 @@ turn-keeps m f M = record {
   places = places M;
   point = λ {v} {v'} {p} W P out room.
       let P' = moves M P out room .left in
-      same (point-answer v' (pointMoved m p out .out) (W .after .numbers) (P' .numbers)) (point-answer v p (W .before .numbers) (P .before .numbers))
+      same (point-answer v' (W .after) (pointMoved m p out .out) (P' .numbers)) (point-answer v (W .before) p (P .before .numbers))
       (point-turned (M .turn .placement .turn) (W .before .planes) (W .after .planes) (P .before .point) (P' .point));
   segment = λ {v} {v'} {p0 = p} {p1 = q} W P Q out out' room room'.
       let P' = moves M P out room .left in
       let Q' = moves M Q out' room' .left in
-      same (segment-answer v' (pointMoved m p out .out) (pointMoved m q out' .out) (W .after .numbers) (P' .numbers) (Q' .numbers))
-      (segment-answer v p q (W .before .numbers) (P .before .numbers) (Q .before .numbers))
+      same (segment-answer v' (W .after) (pointMoved m p out .out) (pointMoved m q out' .out) (P' .numbers) (Q' .numbers))
+      (segment-answer v (W .before) p q (P .before .numbers) (Q .before .numbers))
       (segment-turned (M .turn .placement .turn) (W .before .planes) (W .after .planes) (P .before .point) (P' .point) (Q .before .point) (Q' .point));
   box = λ {v} {v'} {b} W B out room.
       let B' = places M B out room .left in
-      same (box-answer v' (boxMoved b m out .out) (W .after .numbers) (B' .numbers) (is-true (flagged (boxMoved b m out .out)) (B' .flag)))
-      (box-answer v b (W .before .numbers) (B .before .numbers) (is-true (flagged b) (B .before .flag)))
+      same (box-answer v' (W .after) (boxMoved b m out .out) (B' .numbers) (is-true (flagged (boxMoved b m out .out)) (B' .flag)))
+      (box-answer v (W .before) b (B .before .numbers) (is-true (flagged b) (B .before .flag)))
       (box-turned (M .turn .placement) (W .before .planes) (W .after .planes) (B .before .box) (B' .box));
 }

@@ -12,21 +12,21 @@ use Rattle.farmgrid.proofs.BoxInView.{box-is}
 
 pub point-exact : PointExact
 point-exact v p Ps A W P = record {
-  verdict = pointOf (planesOf v) (vec3Of p);
-  answered = point-answer v p (W .numbers) (P .numbers);
+  verdict = pointOf (planesOf v (W .count)) (vec3Of p);
+  answered = point-answer v W p (P .numbers);
   exact = point-is (W .planes) (P .point);
 }
 
 pub segment-exact : SegmentExact
 segment-exact v p q Ps A B W P Q = record {
-  verdict = segmentOf (planesOf v) (vec3Of p) (vec3Of q);
-  answered = segment-answer v p q (W .numbers) (P .numbers) (Q .numbers);
+  verdict = segmentOf (planesOf v (W .count)) (vec3Of p) (vec3Of q);
+  answered = segment-answer v W p q (P .numbers) (Q .numbers);
   exact = segment-is (W .planes) (P .point) (Q .point);
 }
 
 pub box-exact : BoxExact
 box-exact v b Ps B W S C = record {
-  verdict = inView (planesOf v) (boxOf b);
-  answered = box-answer v b (W .numbers) (C .numbers) (is-true (flagged b) (C .flag));
+  verdict = inView (planesOf v (W .count)) (boxOf b);
+  answered = box-answer v W b (C .numbers) (is-true (flagged b) (C .flag));
   exact = box-is (W .planes) S (C .box);
 }

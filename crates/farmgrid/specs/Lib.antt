@@ -4,6 +4,7 @@ pub mod Placement
 pub mod FarmGrid
 pub mod Records
 pub mod Verdicts
+pub mod Screens
 pub mod Survey
 pub mod Turns
 pub mod Combining

@@ -4,17 +4,19 @@ use mathlib.Core.Path.{_≡_}
 use mathlib.Core.Logic.{_↔_}
 use mathlib.Core.Bool.{Bool}
 use mathlib.Core.List.{List, [], _∷_}
-use Prim.Native.Nat.{ℕ}
+use Prim.Native.Nat.{ℕ, _≤_}
 use lib.Dec.{T}
 use lib.ListN.{length}
-use lib.IntN.{ℤ}
+use lib.IntN.{ℤ, pos}
 use lib.Ieee.{Float}
 use Rattle.number.specs.Answer.{Reply, Outcome, result}
+use Rattle.number.specs.Slice.{at}
 use Rattle.matrix.specs.Vec.{vec3Of}
 use Rattle.matrix.specs.Matrix.{matrixOf}
 use Rattle.verdict.specs.BBox.{boxOf}
 use Rattle.verdict.specs.BBoxCalls.{flagged}
-use Rattle.verdict.specs.Volume.{volumeLength, planesOf}
+use Rattle.verdict.specs.Volume.{fewestPlanes, mostPlanes, volumeLength, countOf, planesOf}
+use Rattle.farmgrid.specs.Whole.{Whole}
 use Rattle.farmgrid.specs.Placement.{Placed}
 use Rattle.farmgrid.specs.FarmGrid.{WholePlane, WholeBox, IsPoint, ArePlanes, IsBox}
 
@@ -25,10 +27,22 @@ pub record PointRecord (p : List Float) (A : ℕ → ℤ) : Type 0 where
   pub numbers : length p ≡ 3
   pub point : IsPoint (vec3Of p) A
 
--- a view by the planes Ps, which are of a kind, `SegmentPlane` or `AxisPlane`. Its four rays may be any numbers.
+-- the float x is "a whole count" n, "from 6 to 32"
+pub record PlaneCount (x : Float) (n : ℕ) : Type 0 where
+  pub whole : Whole x (pos n)
+  pub fewest : fewestPlanes ≤ n
+  pub most : n ≤ mostPlanes
+
+-- A number is taken for a count exactly where it is one: "12 for a count not whole or outside 6 to 32", and for no other.
+abbrev pub CountExact : Type 0
+CountExact = (x : Float) (n : ℕ) → (countOf x ≡ result n) ↔ PlaneCount x n
+
+-- a view by the planes Ps, from 6 to 32, which are of a kind, `SegmentPlane` or `AxisPlane`. Its four rays may be any numbers.
 pub record ViewRecord (Kind : WholePlane → Type 0) (v : List Float) (Ps : List WholePlane) : Type 0 where
-  pub numbers : length v ≡ volumeLength
-  pub planes : ArePlanes Kind (planesOf v) Ps
+  pub count : ℕ
+  pub counted : PlaneCount (at v 0) count
+  pub numbers : length v ≡ volumeLength count
+  pub planes : ArePlanes Kind (planesOf v count) Ps
 
 -- a grid box B: "Grid boxes have a flag of 0 or 1"
 pub record BoxRecord (b : List Float) (B : WholeBox) : Type 0 where

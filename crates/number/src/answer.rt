@@ -14,6 +14,7 @@ pub enum Refusal {
     Directory,
     SectionLength,
     GroupSize,
+    PlaneCount,
 }
 
 pub enum Written {
@@ -49,6 +50,7 @@ impl Refusal {
             Refusal::Directory => 9,
             Refusal::SectionLength => 10,
             Refusal::GroupSize => 11,
+            Refusal::PlaneCount => 12,
         }
     }
 }

@@ -8,9 +8,9 @@ use lib.Ieee.{Float, binary64, ofBits}
 use Rattle.replay.specs.Lengths.{isLent, shorter, longer, refusalAt}
 use Rattle.replay.specs.Same.{allSame}
 
--- 80 times 12345
+-- 192 times 12345
 abbrev pub blank : List Float
-blank = replicate 80 (ofBits binary64 0x40c8_1c80_0000_0000)
+blank = replicate 192 (ofBits binary64 0x40c8_1c80_0000_0000)
 
 -- trials 2 i and 2 i + 1 have a number less and one more at the place i, if a slice is lent there
 unfoldable pub tried : List ℕ → ℕ → List ℕ

@@ -25,7 +25,7 @@ fn slices_same(signed: bool, a: &[f64], b: &[f64]) -> bool
     true
 }
 
-pub fn all_same(signed: bool, a: &[f64; 80], b: &[f64; 80]) -> bool
+pub fn all_same(signed: bool, a: &[f64; 192], b: &[f64; 192]) -> bool
     ensures { λ r. ⌜ r ≡ allSame signed (now (a .entry)) (now (b .entry)) ⌝ }
 {
     slices_same(signed, a, b)

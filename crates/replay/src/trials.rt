@@ -12,10 +12,10 @@ use crate::lengths::shorter;
 use crate::same::all_same;
 
 // What stands where nothing was answered.
-pub fn blank() -> [f64; 80]
-    ensures { λ r. ⌜ (r ≡ blank) × (80 ≡ length r) ⌝ }
+pub fn blank() -> [f64; 192]
+    ensures { λ r. ⌜ (r ≡ blank) × (192 ≡ length r) ⌝ }
 {
-    [12345.0; 80]
+    [12345.0; 192]
 }
 
 // The lengths of a trial.
@@ -32,7 +32,7 @@ pub fn tried(lengths: [u8; 5], trial: usize) -> [u8; 5]
     lengths
 }
 
-fn is_blank(numbers: &[f64; 80]) -> bool
+fn is_blank(numbers: &[f64; 192]) -> bool
     ensures { λ r. ⌜ r ≡ allSame true (now (numbers .entry)) blank ⌝ }
 {
     let nothing = blank();
@@ -46,9 +46,9 @@ pub fn accepts(
     trial: usize,
     signed: bool,
     status: u64,
-    answer: &[f64; 80],
+    answer: &[f64; 192],
     got: u64,
-    left: &[f64; 80],
+    left: &[f64; 192],
 ) -> bool
     ensures { λ r. ⌜ r ≡ accepted lengths trial signed status (now (answer .entry)) got (now (left .entry)) ⌝ }
 {

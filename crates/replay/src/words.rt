@@ -13,13 +13,13 @@ pub fn word(bytes: &[u8; 8]) -> u64
 }
 
 // A count of numbers, at most as many as are held.
-pub fn at_most_80(count: u64) -> usize
-    ensures { λ r. ⌜ r ≡ min count 80 ⌝ }
+pub fn at_most_192(count: u64) -> usize
+    ensures { λ r. ⌜ r ≡ min count 192 ⌝ }
 {
-    if count < 80 {
+    if count < 192 {
         return count as usize;
     }
-    80
+    192
 }
 
 fn least(a: usize, b: usize) -> usize
@@ -32,9 +32,9 @@ fn least(a: usize, b: usize) -> usize
 }
 
 // So many words as numbers, to the front of a slice, as many as there are and it has room for.
-pub fn put_numbers(bytes: &[u8; 640], count: usize, numbers: &mut [f64])
+pub fn put_numbers(bytes: &[u8; 1536], count: usize, numbers: &mut [f64])
     ensures { λ _. ⌜ now (numbers .exit) ≡ putWords count (now (bytes .entry)) (now (numbers .entry)) ⌝ }
 {
-    let n = least(least(count, 80), numbers.len());
+    let n = least(least(count, 192), numbers.len());
     load(bytes, 0, &mut numbers[..n]);
 }

@@ -8,7 +8,7 @@ use crate::verdict_operations;
 use replay::inputs::first;
 use replay::inputs::rest;
 
-// The lengths of its four inputs, and of its result, where so many numbers are given; no result where there is no such operation.
+// The lengths of its four inputs, where so many numbers are given, and of its result; no result where there is no such operation.
 pub(crate) fn lengths(code: u64, given: usize) -> [u8; 5] {
     if code <= 100 {
         return number_operations::lengths(code);
@@ -17,7 +17,7 @@ pub(crate) fn lengths(code: u64, given: usize) -> [u8; 5] {
         return matrix_operations::lengths(code);
     }
     if code <= 222 {
-        return verdict_operations::lengths(code);
+        return verdict_operations::lengths(code, given);
     }
     if code == 224 {
         return group_operations::lengths(given);

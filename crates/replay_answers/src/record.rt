@@ -10,7 +10,7 @@ use replay::lengths::total;
 use replay::trials::accepts;
 use replay::trials::blank;
 use replay::trials::tried;
-use replay::words::at_most_80;
+use replay::words::at_most_192;
 use replay::words::put_numbers;
 use replay::words::word;
 
@@ -22,27 +22,26 @@ fn read_word() -> u64 {
 }
 
 // A count, and so many words, to the front of the numbers. Answers the count.
-fn read_numbers(numbers: &mut [f64; 80]) -> usize {
-    let count = at_most_80(read_word());
-    let mut bytes = [0u8; 640];
+fn read_numbers(numbers: &mut [f64; 192]) -> usize {
+    let count = at_most_192(read_word());
+    let mut bytes = [0u8; 1536];
     io::read_full(0, &mut bytes[0..8 * count]);
     put_numbers(&bytes, count, numbers);
     count
 }
 
-// Whether the call of a trial answers as it must.
+// Whether the call of a trial answers as it must, where the right lengths are these.
 fn passes(
     trial: usize,
     code: u64,
-    count: usize,
-    given: &[f64; 80],
+    right: [u8; 5],
+    given: &[f64; 192],
     status: u64,
-    answer: &[f64; 80],
+    answer: &[f64; 192],
 ) -> bool {
-    let right = lengths(code, count);
     let lengths = tried(right, trial);
     let room = lengths[4] as usize;
-    if 80 < room {
+    if 192 < room {
         return false;
     }
     let mut out = blank();
@@ -50,32 +49,54 @@ fn passes(
     accepts(right, trial, signed(code), status, answer, got as u64, &out)
 }
 
-// The ten trials of wrong lengths, and the call as it was recorded.
-fn passes_all(code: u64, count: usize, given: &[f64; 80], status: u64, answer: &[f64; 80]) -> bool {
-    passes(0, code, count, given, status, answer)
-        && passes(1, code, count, given, status, answer)
-        && passes(2, code, count, given, status, answer)
-        && passes(3, code, count, given, status, answer)
-        && passes(4, code, count, given, status, answer)
-        && passes(5, code, count, given, status, answer)
-        && passes(6, code, count, given, status, answer)
-        && passes(7, code, count, given, status, answer)
-        && passes(8, code, count, given, status, answer)
-        && passes(9, code, count, given, status, answer)
-        && passes(10, code, count, given, status, answer)
+// The call as it was recorded.
+fn passes_as_recorded(
+    code: u64,
+    right: [u8; 5],
+    given: &[f64; 192],
+    status: u64,
+    answer: &[f64; 192],
+) -> bool {
+    passes(10, code, right, given, status, answer)
+}
+
+// The ten trials of wrong lengths, and the call as it was recorded. A refused count is tried as it was recorded alone: it comes
+// before some wrong lengths of a volume, and behind others.
+fn passes_all(
+    code: u64,
+    right: [u8; 5],
+    given: &[f64; 192],
+    status: u64,
+    answer: &[f64; 192],
+) -> bool {
+    if status == 12 {
+        return passes_as_recorded(code, right, given, status, answer);
+    }
+    passes(0, code, right, given, status, answer)
+        && passes(1, code, right, given, status, answer)
+        && passes(2, code, right, given, status, answer)
+        && passes(3, code, right, given, status, answer)
+        && passes(4, code, right, given, status, answer)
+        && passes(5, code, right, given, status, answer)
+        && passes(6, code, right, given, status, answer)
+        && passes(7, code, right, given, status, answer)
+        && passes(8, code, right, given, status, answer)
+        && passes(9, code, right, given, status, answer)
+        && passes_as_recorded(code, right, given, status, answer)
 }
 
 // Reads a record after its code, and compares.
 fn next_agrees(code: u64) -> bool {
-    let mut given = [0.0f64; 80];
+    let mut given = [0.0f64; 192];
     let mut answer = blank();
     let count = read_numbers(&mut given);
     let status = read_word();
     read_numbers(&mut answer);
-    if count != total(lengths(code, count)) {
+    let right = lengths(code, count);
+    if count != total(right) {
         return false;
     }
-    passes_all(code, count, &given, status, &answer)
+    passes_all(code, right, &given, status, &answer)
 }
 
 fn print_difference(place: u64) {

@@ -8,8 +8,20 @@ use verdict::plane_calls;
 use verdict::projection_calls;
 use verdict::ray_calls;
 
-// The lengths of its four inputs, and of its result; no result where there is no such operation.
-pub(crate) fn lengths(code: u64) -> [u8; 5] {
+// The length of a volume that is given with so many other numbers: any up to that of one plane too many.
+fn volume(given: usize, others: usize) -> u8 {
+    if given < others {
+        return 0;
+    }
+    let length = given - others;
+    if 157 < length {
+        return 0;
+    }
+    length as u8
+}
+
+// The lengths of its four inputs, where so many numbers are given, and of its result; no result where there is no such operation.
+pub(crate) fn lengths(code: u64, given: usize) -> [u8; 5] {
     match code {
         201 => [23, 23, 0, 0, 23],
         202 => [23, 16, 0, 0, 23],
@@ -27,10 +39,10 @@ pub(crate) fn lengths(code: u64) -> [u8; 5] {
         215 => [6, 3, 3, 3, 5],
         216 => [7, 0, 0, 0, 16],
         217 => [16, 0, 0, 0, 7],
-        218 => [48, 3, 0, 0, 1],
-        219 => [48, 3, 3, 0, 1],
-        220 => [48, 3, 3, 3, 1],
-        221 => [48, 23, 0, 0, 1],
+        218 => [volume(given, 3), 3, 0, 0, 1],
+        219 => [volume(given, 6), 3, 3, 0, 1],
+        220 => [volume(given, 9), 3, 3, 3, 1],
+        221 => [volume(given, 23), 23, 0, 0, 1],
         222 => [23, 16, 0, 0, 1],
         _ => [0, 0, 0, 0, 0],
     }

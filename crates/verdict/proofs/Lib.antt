@@ -6,7 +6,10 @@ pub mod Same
 pub mod Worked
 pub mod Flags
 pub mod Cuts
+pub mod PlaneCount
+pub mod PlanesHeld
 pub mod PlanesLeft
 pub mod Masks
 pub mod Passes
 pub mod Marked
+pub mod Screens

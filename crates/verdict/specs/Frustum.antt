@@ -22,7 +22,7 @@ use Rattle.verdict.specs.declared.ray.TriangleHit.{TriangleHit}
 use Rattle.verdict.specs.declared.ray.TriangleHit.the-variants.{Hit, Refused}
 use Rattle.verdict.specs.Plane.{distanceTo, onPositiveSide, reachesPositiveSide, underInverseTranspose}
 use Rattle.verdict.specs.Ray.{triangleHit}
-use Rattle.verdict.specs.Volume.{planesFrom, planesOf, nearAndFar, rayCount, raysFrom}
+use Rattle.verdict.specs.Volume.{planesFrom, originalPlanes, nearAndFar, rayCount, raysFrom}
 use Rattle.verdict.specs.Projection.{everyBelow}
 use Rattle.verdict.specs.BBox.{intoBox}
 
@@ -111,14 +111,15 @@ abbrev pub sightLines : List Float → Vec3d → Vec3d → Vec3d → ℕ
 sightLines s a b c = cond (every (hasCorners a b c) (nearAndFar s)) 1 rayCount
 
 -- Not all are behind one plane; and then a corner is inside, or some of a side is, or the triangle surrounds the view, so that a line of sight meets it.
-unfoldable pub triangleOf : List Float → Vec3d → Vec3d → Vec3d → Bool
+-- "The triangle verdict uses the original six and its corner rays": of a record of n planes, those in front and the rays behind the last.
+unfoldable pub triangleOf : List Float → ℕ → Vec3d → Vec3d → Vec3d → Bool
 unfolding every pointOf segmentOf someHit planesFrom raysFrom
-triangleOf s a b c =
-    let ps = planesOf s in
+triangleOf s n a b c =
+    let ps = originalPlanes s in
     every (hasCorner a b c) ps
     && (pointOf ps a || pointOf ps b || pointOf ps c
     || segmentOf ps a b || segmentOf ps b c || segmentOf ps c a
-    || someHit (raysFrom s 0 (sightLines s a b c)) a b c)
+    || someHit (raysFrom s n 0 (sightLines s a b c)) a b c)
 
 -- ---- a box in clip space
 

@@ -10,4 +10,5 @@ pub mod Volume
 pub mod Frustum
 pub mod FrustumCalls
 pub mod Marked
+pub mod Screens
 pub mod Passes

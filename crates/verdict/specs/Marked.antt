@@ -39,9 +39,9 @@ cubePlanes =
 abbrev pub zeroRay : List Float
 zeroRay = three (plus 0) (plus 0) (plus 0) ++ three (plus 0) (plus 0) (plus 0)
 
--- "All numbers of its four rays are 0."
+-- "All numbers of its four rays are 0." The count of its planes stands first.
 abbrev pub cube : List Float
-cube = cubePlanes ++ zeroRay ++ zeroRay ++ zeroRay ++ zeroRay
+cube = plus 6 ∷ cubePlanes ++ zeroRay ++ zeroRay ++ zeroRay ++ zeroRay
 
 -- ---- the boxes
 

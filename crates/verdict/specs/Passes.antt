@@ -1,10 +1,11 @@
 -- What one pass over the planes of a view, or over the corners of a box, has found so far. They serve the contracts of private
 -- functions; no verdict's definition speaks of them. Definitions only.
-use Prim.Native.Nat.{ℕ, _+_, _-_, _*_, _/_, _%_, _^_}
+use Prim.Native.Nat.{ℕ, _+_, _-_, _*_, _/_, _%_, _^_, _≤_}
 use mathlib.Core.Bool.{Bool, true, false, _&&_, _||_}
 use mathlib.Core.List.{List, [], _∷_}
 use lib.Dec.{eqb}
-use lib.Ieee.{lt, neg}
+use lib.ListN.{length}
+use lib.Ieee.{Float, lt, neg}
 use Rattle.matrix.specs.Constants.{positiveZero, one}
 use Rattle.matrix.specs.Transform.{homogeneous}
 use Rattle.matrix.specs.Range.{corner}
@@ -15,8 +16,12 @@ use Rattle.matrix.specs.declared.matrix.Mat4d.{Mat4d}
 use Rattle.verdict.specs.declared.plane.Plane.{Plane}
 use Rattle.verdict.specs.declared.view_volume.Sides.{Sides}
 use Rattle.verdict.specs.Plane.{onPositiveSide}
-use Rattle.verdict.specs.Volume.{planeCount, nearPlane}
+use Rattle.verdict.specs.Volume.{mostPlanes, nearPlane, planeStart}
 use Rattle.verdict.specs.Frustum.{every, hasEnd, spanLeft, someBelow}
+
+-- a record has room for n planes, and may hold so many
+abbrev pub HasPlanes : List Float → ℕ → Type 0
+HasPlanes s n = (n ≤ mostPlanes) × (planeStart n ≤ length s)
 
 -- ---- the planes that pass a test, as the bits of a number
 
@@ -33,9 +38,9 @@ maskOf test (p ∷ ps) = maskOf test ps * 2 + bit (test p)
 abbrev pub sidesOf : List Plane → Vec3d → ℕ
 sidesOf ps x = maskOf (λ p. onPositiveSide p x) ps
 
--- all of a view's
-abbrev pub allPlanes : ℕ
-allPlanes = 2 ^ planeCount - 1
+-- all of n planes
+abbrev pub allPlanes : ℕ → ℕ
+allPlanes n = 2 ^ n - 1
 
 -- the near and the far plane are among them
 abbrev pub nearAndFarIn : ℕ → Bool

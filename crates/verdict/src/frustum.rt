@@ -1,26 +1,25 @@
 // The verdicts of a view: whether a point, a segment or a box is in it.
 ghost use mathlib.Core.Path.{_≡_};
-ghost use lib.ListN.{length};
 ghost use Rattle.matrix.specs.Constants.{positiveZero, one};
-ghost use Rattle.verdict.specs.Passes.{sidesOf};
-ghost use Rattle.verdict.specs.Volume.{volumeLength, planesOf};
+ghost use Rattle.verdict.specs.Passes.{HasPlanes, sidesOf};
+ghost use Rattle.verdict.specs.Volume.{planesOf};
 ghost use Rattle.verdict.specs.Frustum.{pointOf, crossing, startCut, endCut, spanLeft, segmentOf, intoSpaceOf, boxOf};
 use crate::bbox::BBox3d;
 use crate::plane::Plane;
-use crate::volume::ALL_PLANES;
-use crate::volume::PLANE_COUNT;
+use crate::volume::FEWEST_PLANES;
+use crate::volume::all_planes;
 use crate::volume::plane_at;
 use matrix::matrix::Mat4d;
 use matrix::vec::Vec3d;
 use number::order;
 
 // Whether a point is on the positive side of every plane.
-pub(crate) fn intersects_point(volume: &[f64], p: Vec3d) -> bool
-    requires { ⌜ length (now volume) ≡ volumeLength ⌝ }
-    ensures { λ r. ⌜ r ≡ pointOf (planesOf (now (volume .entry))) p ⌝ }
+pub(crate) fn intersects_point(volume: &[f64], count: u32, p: Vec3d) -> bool
+    requires { ⌜ HasPlanes (now volume) count ⌝ }
+    ensures { λ r. ⌜ r ≡ pointOf (planesOf (now (volume .entry)) count) p ⌝ }
 {
     let mut i: u32 = 0;
-    while i < PLANE_COUNT {
+    while i < count {
         if !plane_at(volume, i).on_positive_side(p) {
             return false;
         }
@@ -29,16 +28,16 @@ pub(crate) fn intersects_point(volume: &[f64], p: Vec3d) -> bool
     true
 }
 
-// The planes that have a point on their positive side, one bit for each, that of the first plane lowest.
-pub(crate) fn sides_of(volume: &[f64], p: Vec3d) -> u32
-    requires { ⌜ length (now volume) ≡ volumeLength ⌝ }
-    ensures { λ r. ⌜ r ≡ sidesOf (planesOf (now (volume .entry))) p ⌝ }
+// Of the first planes those that have a point on their positive side, one bit for each, that of the first plane lowest.
+pub(crate) fn sides_within(volume: &[f64], count: u32, p: Vec3d) -> u64
+    requires { ⌜ HasPlanes (now volume) count ⌝ }
+    ensures { λ r. ⌜ r ≡ sidesOf (planesOf (now (volume .entry)) count) p ⌝ }
 {
-    let mut sides: u32 = 0;
-    let mut i: u32 = PLANE_COUNT;
+    let mut sides: u64 = 0;
+    let mut i: u32 = count;
     while 0 < i {
         i -= 1;
-        sides = sides * 2 + plane_at(volume, i).on_positive_side(p) as u32;
+        sides = sides * 2 + plane_at(volume, i).on_positive_side(p) as u64;
     }
     sides
 }
@@ -80,10 +79,17 @@ impl Span {
     }
 }
 
-// Whether the planes leave some of a segment, by where it crosses those that have one end alone on their positive side.
-pub(crate) fn span_left(volume: &[f64], a: Vec3d, a_sides: u32, b: Vec3d, b_sides: u32) -> bool
-    requires { ⌜ (length (now volume) ≡ volumeLength) × («a_sides» ≡ sidesOf (planesOf (now volume)) a) × («b_sides» ≡ sidesOf (planesOf (now volume)) b) ⌝ }
-    ensures { λ r. ⌜ r ≡ spanLeft (planesOf (now (volume .entry))) a b positiveZero one ⌝ }
+// Whether the first planes leave some of a segment, by where it crosses those that have one end alone on their positive side.
+pub(crate) fn span_left(
+    volume: &[f64],
+    count: u32,
+    a: Vec3d,
+    a_sides: u64,
+    b: Vec3d,
+    b_sides: u64,
+) -> bool
+    requires { ⌜ HasPlanes (now volume) count × («a_sides» ≡ sidesOf (planesOf (now volume) count) a) × («b_sides» ≡ sidesOf (planesOf (now volume) count) b) ⌝ }
+    ensures { λ r. ⌜ r ≡ spanLeft (planesOf (now (volume .entry)) count) a b positiveZero one ⌝ }
 {
     let mut span = Span {
         start: 0.0,
@@ -92,7 +98,7 @@ pub(crate) fn span_left(volume: &[f64], a: Vec3d, a_sides: u32, b: Vec3d, b_side
     let mut a_left = a_sides;
     let mut b_left = b_sides;
     let mut i: u32 = 0;
-    while i < PLANE_COUNT {
+    while i < count {
         span = span.cut(plane_at(volume, i), a, a_left % 2 == 1, b, b_left % 2 == 1);
         if span.start > span.end {
             return false;
@@ -104,20 +110,34 @@ pub(crate) fn span_left(volume: &[f64], a: Vec3d, a_sides: u32, b: Vec3d, b_side
     true
 }
 
-// Whether some of a segment is on the positive side of every plane.
-pub(crate) fn intersects_segment(volume: &[f64], a: Vec3d, b: Vec3d) -> bool
-    requires { ⌜ length (now volume) ≡ volumeLength ⌝ }
-    ensures { λ r. ⌜ r ≡ segmentOf (planesOf (now (volume .entry))) a b ⌝ }
+// Whether some of a segment is on the positive side of the first planes, by those that have an end there.
+fn segment_left(volume: &[f64], count: u32, a: Vec3d, a_sides: u64, b: Vec3d, b_sides: u64) -> bool
+    requires { ⌜ HasPlanes (now volume) count × («a_sides» ≡ sidesOf (planesOf (now volume) count) a) × («b_sides» ≡ sidesOf (planesOf (now volume) count) b) ⌝ }
+    ensures { λ r. ⌜ r ≡ segmentOf (planesOf (now (volume .entry)) count) a b ⌝ }
 {
-    let a_sides = sides_of(volume, a);
-    let b_sides = sides_of(volume, b);
-    if a_sides | b_sides != ALL_PLANES {
+    let all = all_planes(count);
+    if a_sides | b_sides != all {
         return false;
     }
-    if (a_sides == ALL_PLANES) | (b_sides == ALL_PLANES) {
+    if (a_sides == all) | (b_sides == all) {
         return true;
     }
-    span_left(volume, a, a_sides, b, b_sides)
+    span_left(volume, count, a, a_sides, b, b_sides)
+}
+
+// Whether some of a segment is on the positive side of every plane. The fewest are passed by a count that the compiler knows.
+pub(crate) fn intersects_segment(volume: &[f64], count: u32, a: Vec3d, b: Vec3d) -> bool
+    requires { ⌜ HasPlanes (now volume) count ⌝ }
+    ensures { λ r. ⌜ r ≡ segmentOf (planesOf (now (volume .entry)) count) a b ⌝ }
+{
+    if count == FEWEST_PLANES {
+        let a_sides = sides_within(volume, FEWEST_PLANES, a);
+        let b_sides = sides_within(volume, FEWEST_PLANES, b);
+        return segment_left(volume, FEWEST_PLANES, a, a_sides, b, b_sides);
+    }
+    let a_sides = sides_within(volume, count, a);
+    let b_sides = sides_within(volume, count, b);
+    segment_left(volume, count, a, a_sides, b, b_sides)
 }
 
 // The matrix that carries planes into the space of a box; a degenerate box is taken as if its matrix were the identity.
@@ -131,9 +151,9 @@ fn into_space(b: BBox3d) -> Mat4d
 }
 
 // Whether a box reaches the positive side of every plane. An empty one does not.
-pub(crate) fn intersects_bbox(volume: &[f64], b: BBox3d) -> bool
-    requires { ⌜ length (now volume) ≡ volumeLength ⌝ }
-    ensures { λ r. ⌜ r ≡ boxOf (planesOf (now (volume .entry))) b ⌝ }
+pub(crate) fn intersects_bbox(volume: &[f64], count: u32, b: BBox3d) -> bool
+    requires { ⌜ HasPlanes (now volume) count ⌝ }
+    ensures { λ r. ⌜ r ≡ boxOf (planesOf (now (volume .entry)) count) b ⌝ }
 {
     let range = b.range;
     if range.is_empty() {
@@ -141,7 +161,7 @@ pub(crate) fn intersects_bbox(volume: &[f64], b: BBox3d) -> bool
     }
     let into = into_space(b);
     let mut i: u32 = 0;
-    while i < PLANE_COUNT {
+    while i < count {
         if !plane_at(volume, i)
             .under_inverse_transpose(into)
             .reaches_positive_side(range) {

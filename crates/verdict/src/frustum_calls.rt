@@ -7,7 +7,8 @@ use crate::bbox::is_flag;
 use crate::frustum;
 use crate::triangle;
 use crate::view_volume;
-use crate::volume::VOLUME_LENGTH;
+use crate::volume::Counted;
+use crate::volume::planes_held;
 use matrix::matrix::Mat4d;
 use matrix::vec::Vec3d;
 use number::answer::Refusal;
@@ -28,67 +29,55 @@ fn told(yes: bool) -> Verdict
 pub fn intersects_point(volume: &[f64], p: &[f64]) -> Verdict
     ensures { λ r. ⌜ verdictOf r ≡ intersectsPointCall (now (volume .entry)) (now (p .entry)) ⌝ }
 {
-    if volume.len() != VOLUME_LENGTH {
-        return Verdict::Refused(Refusal::InputLength);
+    match planes_held(volume, p.len() == 3) {
+        Counted::Planes(count) => told(frustum::intersects_point(volume, count, Vec3d::load(p))),
+        Counted::Refused(refusal) => Verdict::Refused(refusal),
     }
-    if p.len() != 3 {
-        return Verdict::Refused(Refusal::InputLength);
-    }
-    told(frustum::intersects_point(volume, Vec3d::load(p)))
 }
 
 // Whether some of a segment is.
 pub fn intersects_segment(volume: &[f64], p0: &[f64], p1: &[f64]) -> Verdict
     ensures { λ r. ⌜ verdictOf r ≡ intersectsSegmentCall (now (volume .entry)) (now (p0 .entry)) (now (p1 .entry)) ⌝ }
 {
-    if volume.len() != VOLUME_LENGTH {
-        return Verdict::Refused(Refusal::InputLength);
+    match planes_held(volume, (p0.len() == 3) & (p1.len() == 3)) {
+        Counted::Planes(count) => {
+            told(frustum::intersects_segment(volume, count, Vec3d::load(p0), Vec3d::load(p1)))
+        }
+        Counted::Refused(refusal) => Verdict::Refused(refusal),
     }
-    if p0.len() != 3 {
-        return Verdict::Refused(Refusal::InputLength);
-    }
-    if p1.len() != 3 {
-        return Verdict::Refused(Refusal::InputLength);
-    }
-    told(frustum::intersects_segment(volume, Vec3d::load(p0), Vec3d::load(p1)))
 }
 
 // Whether some of a box is, by the planes alone.
 pub fn intersects_bbox(volume: &[f64], bbox: &[f64]) -> Verdict
     ensures { λ r. ⌜ verdictOf r ≡ intersectsBoxCall (now (volume .entry)) (now (bbox .entry)) ⌝ }
 {
-    if volume.len() != VOLUME_LENGTH {
-        return Verdict::Refused(Refusal::InputLength);
+    match planes_held(volume, bbox.len() == 23) {
+        Counted::Planes(count) => {
+            if !is_flag(at(bbox, 22)) {
+                return Verdict::Refused(Refusal::Kind);
+            }
+            told(frustum::intersects_bbox(volume, count, BBox3d::load(bbox)))
+        }
+        Counted::Refused(refusal) => Verdict::Refused(refusal),
     }
-    if bbox.len() != 23 {
-        return Verdict::Refused(Refusal::InputLength);
-    }
-    if !is_flag(at(bbox, 22)) {
-        return Verdict::Refused(Refusal::Kind);
-    }
-    told(frustum::intersects_bbox(volume, BBox3d::load(bbox)))
 }
 
 // Whether a triangle is in view.
 pub fn intersects_triangle(volume: &[f64], p0: &[f64], p1: &[f64], p2: &[f64]) -> Verdict
     ensures { λ r. ⌜ verdictOf r ≡ intersectsTriangleCall (now (volume .entry)) (now (p0 .entry)) (now (p1 .entry)) (now (p2 .entry)) ⌝ }
 {
-    if volume.len() != VOLUME_LENGTH {
-        return Verdict::Refused(Refusal::InputLength);
+    match planes_held(volume, (p0.len() == 3) & (p1.len() == 3) & (p2.len() == 3)) {
+        Counted::Planes(count) => {
+            told(triangle::intersects_triangle(
+                volume,
+                count,
+                Vec3d::load(p0),
+                Vec3d::load(p1),
+                Vec3d::load(p2),
+            ))
+        }
+        Counted::Refused(refusal) => Verdict::Refused(refusal),
     }
-    if p0.len() != 3 {
-        return Verdict::Refused(Refusal::InputLength);
-    }
-    if p1.len() != 3 {
-        return Verdict::Refused(Refusal::InputLength);
-    }
-    if p2.len() != 3 {
-        return Verdict::Refused(Refusal::InputLength);
-    }
-    if triangle::intersects_triangle(volume, Vec3d::load(p0), Vec3d::load(p1), Vec3d::load(p2)) {
-        return Verdict::Yes;
-    }
-    Verdict::No
 }
 
 // Whether a box reaches into the clip space of a view.

@@ -12,4 +12,4 @@ pub mod ray_calls;
 mod record;
 pub mod triangle;
 pub mod view_volume;
-mod volume;
+pub mod volume;

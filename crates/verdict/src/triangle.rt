@@ -4,33 +4,34 @@ ghost use mathlib.Core.Bool.{cond};
 ghost use Prim.Native.Nat.{_≤_};
 ghost use lib.ListN.{length};
 ghost use Rattle.verdict.specs.Ray.{triangleHit};
-ghost use Rattle.verdict.specs.Volume.{volumeLength, rayCount, planesOf, raysFrom};
-ghost use Rattle.verdict.specs.Passes.{sidesOf, sideLeft, nearAndFarIn};
+ghost use Rattle.verdict.specs.Volume.{fewestPlanes, rayCount, volumeLength, originalPlanes, raysFrom};
+ghost use Rattle.verdict.specs.Passes.{HasPlanes, sidesOf, sideLeft, nearAndFarIn};
 ghost use Rattle.verdict.specs.Frustum.{isHit, someHit, triangleOf};
-use crate::frustum::sides_of;
+use crate::frustum::sides_within;
 use crate::frustum::span_left;
 use crate::ray::Ray;
 use crate::ray::TriangleHit;
-use crate::volume::ALL_PLANES;
+use crate::volume::FEWEST_PLANES;
 use crate::volume::NEAR_PLANE;
+use crate::volume::ORIGINAL_PLANES;
 use crate::volume::RAY_COUNT;
 use crate::volume::ray_at;
 use matrix::vec::Vec3d;
 
 // Whether some of a side is in view, of which both ends are outside.
-fn side_in_view(volume: &[f64], a: Vec3d, a_sides: u32, b: Vec3d, b_sides: u32) -> bool
-    requires { ⌜ (length (now volume) ≡ volumeLength) × («a_sides» ≡ sidesOf (planesOf (now volume)) a) × («b_sides» ≡ sidesOf (planesOf (now volume)) b) ⌝ }
-    ensures { λ r. ⌜ r ≡ sideLeft (planesOf (now (volume .entry))) a b ⌝ }
+fn side_in_view(volume: &[f64], a: Vec3d, a_sides: u64, b: Vec3d, b_sides: u64) -> bool
+    requires { ⌜ HasPlanes (now volume) fewestPlanes × («a_sides» ≡ sidesOf (originalPlanes (now volume)) a) × («b_sides» ≡ sidesOf (originalPlanes (now volume)) b) ⌝ }
+    ensures { λ r. ⌜ r ≡ sideLeft (originalPlanes (now (volume .entry))) a b ⌝ }
 {
-    if a_sides | b_sides != ALL_PLANES {
+    if a_sides | b_sides != ORIGINAL_PLANES {
         return false;
     }
-    span_left(volume, a, a_sides, b, b_sides)
+    span_left(volume, FEWEST_PLANES, a, a_sides, b, b_sides)
 }
 
 // How many lines of sight are tried, by the planes that have all three points on their positive side: one where the near and the
 // far plane do.
-fn sight_lines(sides: u32) -> u32
+fn sight_lines(sides: u64) -> u32
     ensures { λ r. ⌜ (r ≡ cond (nearAndFarIn sides) 1 rayCount) × (r ≤ rayCount) ⌝ }
 {
     if (sides >> NEAR_PLANE) % 4 == 3 {
@@ -54,14 +55,14 @@ fn meets(ray: Ray, p0: Vec3d, p1: Vec3d, p2: Vec3d) -> bool
     }
 }
 
-// Whether one of the first lines of sight meets the triangle.
-fn line_meets(volume: &[f64], count: u32, p0: Vec3d, p1: Vec3d, p2: Vec3d) -> bool
-    requires { ⌜ (count ≤ rayCount) × (length (now volume) ≡ volumeLength) ⌝ }
-    ensures { λ r. ⌜ r ≡ someHit (raysFrom (now (volume .entry)) 0 count) p0 p1 p2 ⌝ }
+// Whether one of the first lines of sight, behind so many planes, meets the triangle.
+fn line_meets(volume: &[f64], count: u32, lines: u32, p0: Vec3d, p1: Vec3d, p2: Vec3d) -> bool
+    requires { ⌜ (lines ≤ rayCount) × (length (now volume) ≡ volumeLength count) ⌝ }
+    ensures { λ r. ⌜ r ≡ someHit (raysFrom (now (volume .entry)) count 0 lines) p0 p1 p2 ⌝ }
 {
     let mut i: u32 = 0;
-    while i < count {
-        if meets(ray_at(volume, i), p0, p1, p2) {
+    while i < lines {
+        if meets(ray_at(volume, count, i), p0, p1, p2) {
             return true;
         }
         i += 1;
@@ -69,18 +70,24 @@ fn line_meets(volume: &[f64], count: u32, p0: Vec3d, p1: Vec3d, p2: Vec3d) -> bo
     false
 }
 
-// Whether a triangle is in view: a corner is, or some of a side, or it surrounds the view.
-pub(crate) fn intersects_triangle(volume: &[f64], p0: Vec3d, p1: Vec3d, p2: Vec3d) -> bool
-    requires { ⌜ length (now volume) ≡ volumeLength ⌝ }
-    ensures { λ r. ⌜ r ≡ triangleOf (now (volume .entry)) p0 p1 p2 ⌝ }
+// Whether a triangle is in view, by the original planes: a corner is, or some of a side, or it surrounds the view.
+pub(crate) fn intersects_triangle(
+    volume: &[f64],
+    count: u32,
+    p0: Vec3d,
+    p1: Vec3d,
+    p2: Vec3d,
+) -> bool
+    requires { ⌜ HasPlanes (now volume) fewestPlanes × (length (now volume) ≡ volumeLength count) ⌝ }
+    ensures { λ r. ⌜ r ≡ triangleOf (now (volume .entry)) count p0 p1 p2 ⌝ }
 {
-    let sides0 = sides_of(volume, p0);
-    let sides1 = sides_of(volume, p1);
-    let sides2 = sides_of(volume, p2);
-    if sides0 | sides1 | sides2 != ALL_PLANES {
+    let sides0 = sides_within(volume, FEWEST_PLANES, p0);
+    let sides1 = sides_within(volume, FEWEST_PLANES, p1);
+    let sides2 = sides_within(volume, FEWEST_PLANES, p2);
+    if sides0 | sides1 | sides2 != ORIGINAL_PLANES {
         return false;
     }
-    if (sides0 == ALL_PLANES) | (sides1 == ALL_PLANES) | (sides2 == ALL_PLANES) {
+    if (sides0 == ORIGINAL_PLANES) | (sides1 == ORIGINAL_PLANES) | (sides2 == ORIGINAL_PLANES) {
         return true;
     }
     if side_in_view(volume, p0, sides0, p1, sides1) {
@@ -92,5 +99,12 @@ pub(crate) fn intersects_triangle(volume: &[f64], p0: Vec3d, p1: Vec3d, p2: Vec3
     if side_in_view(volume, p2, sides2, p0, sides0) {
         return true;
     }
-    line_meets(volume, sight_lines(sides0 & sides1 & sides2), p0, p1, p2)
+    line_meets(
+        volume,
+        count,
+        sight_lines(sides0 & sides1 & sides2),
+        p0,
+        p1,
+        p2,
+    )
 }

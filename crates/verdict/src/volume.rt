@@ -1,44 +1,125 @@
-// The record of a view: its planes, that face into it, then lines of sight along its corners. What knows its layout is here.
+// The record of a view: how many planes it has, the planes, that face into it, then lines of sight along its corners. What knows
+// its layout is here.
 ghost use mathlib.Core.Path.{_≡_};
-ghost use Prim.Native.Nat.{_<_};
+ghost use Prim.Native.Nat.{_+_, _<_, _≤_};
 ghost use lib.ListN.{length};
-ghost use Rattle.verdict.specs.Volume.{planeCount, rayCount, volumeLength, planeAt, rayAt};
+ghost use Rattle.verdict.specs.Volume.{mostPlanes, rayCount, planeStart, rayStart, volumeLength, countedOf, countOf, planesHeld, planeAt, rayAt};
+ghost use Rattle.verdict.specs.Passes.{allPlanes};
 use crate::plane::Plane;
 use crate::ray::Ray;
 use crate::record::vec3_at;
+use number::answer::Refusal;
 
-pub(crate) const PLANE_COUNT: u32 = 6;
+// The original six.
+pub const FEWEST_PLANES: u32 = 6;
 
-// A bit for each plane.
-pub(crate) const ALL_PLANES: u32 = (1 << PLANE_COUNT) - 1;
+const MOST_PLANES: u32 = 32;
+
+// A bit for each of the original planes.
+pub(crate) const ORIGINAL_PLANES: u64 = (1 << FEWEST_PLANES) - 1;
 
 // The near plane, which the far one follows.
 pub(crate) const NEAR_PLANE: u32 = 4;
 
 pub(crate) const RAY_COUNT: u32 = 4;
 
-// Where the rays begin: a plane is four numbers.
-const RAYS_START: usize = PLANE_COUNT as usize * 4;
+// How many planes there are, or why that cannot be said.
+pub enum Counted {
+    Planes(u32),
+    Refused(Refusal),
+}
 
-// How many numbers it has: a ray is six.
-pub(crate) const VOLUME_LENGTH: usize = RAYS_START + RAY_COUNT as usize * 6;
+// Where plane i begins, behind the count: a plane is four numbers.
+fn plane_start(i: u32) -> usize
+    ensures { λ r. ⌜ r ≡ planeStart i ⌝ }
+{
+    1 + i as usize * 4
+}
+
+// Where ray i begins, behind the last plane: a ray is six numbers.
+fn ray_start(count: u32, i: u32) -> usize
+    ensures { λ r. ⌜ r ≡ rayStart count i ⌝ }
+{
+    plane_start(count) + i as usize * 6
+}
+
+// How many numbers a record of so many planes has.
+pub fn volume_length(count: u32) -> usize
+    ensures { λ r. ⌜ r ≡ volumeLength count ⌝ }
+{
+    ray_start(count, RAY_COUNT)
+}
+
+// How many planes the number in front says there are: a whole one from the fewest to the most.
+pub fn count_of(x: f64) -> Counted
+    ensures { λ r. ⌜ countedOf r ≡ countOf x ⌝ }
+{
+    if !(FEWEST_PLANES as f64 <= x) {
+        return Counted::Refused(Refusal::PlaneCount);
+    }
+    if !(x <= MOST_PLANES as f64) {
+        return Counted::Refused(Refusal::PlaneCount);
+    }
+    let count = std::num::truncating_f64_to_u64(x) as u32;
+    if x != count as f64 {
+        return Counted::Refused(Refusal::PlaneCount);
+    }
+    Counted::Planes(count)
+}
+
+// How many planes a record holds, by its count and its length, where the other inputs of a call have their lengths or not. The
+// fewest are asked for first, since most records hold these.
+pub fn planes_held(volume: &[f64], others: bool) -> Counted
+    ensures { λ r. ⌜ countedOf r ≡ planesHeld (now (volume .entry)) others ⌝ }
+{
+    if volume.len() < volume_length(FEWEST_PLANES) {
+        return Counted::Refused(Refusal::InputLength);
+    }
+    if !others {
+        return Counted::Refused(Refusal::InputLength);
+    }
+    let first = volume[0];
+    if first == FEWEST_PLANES as f64 {
+        if volume.len() != volume_length(FEWEST_PLANES) {
+            return Counted::Refused(Refusal::InputLength);
+        }
+        return Counted::Planes(FEWEST_PLANES);
+    }
+    match count_of(first) {
+        Counted::Planes(count) => {
+            if volume.len() != volume_length(count) {
+                return Counted::Refused(Refusal::InputLength);
+            }
+            Counted::Planes(count)
+        }
+        Counted::Refused(refusal) => Counted::Refused(refusal),
+    }
+}
+
+// A bit for each of so many planes.
+pub(crate) fn all_planes(count: u32) -> u64
+    requires { ⌜ count ≤ mostPlanes ⌝ }
+    ensures { λ r. ⌜ r ≡ allPlanes count ⌝ }
+{
+    (1 << count) - 1
+}
 
 pub(crate) fn plane_at(volume: &[f64], i: u32) -> Plane
-    requires { ⌜ (i < planeCount) × (length (now volume) ≡ volumeLength) ⌝ }
+    requires { ⌜ planeStart i + 3 < length (now volume) ⌝ }
     ensures { λ r. ⌜ r ≡ planeAt (now (volume .entry)) i ⌝ }
 {
-    let from = i as usize * 4;
+    let from = plane_start(i);
     Plane {
         normal: vec3_at(volume, from),
         distance: volume[from + 3],
     }
 }
 
-pub(crate) fn ray_at(volume: &[f64], i: u32) -> Ray
-    requires { ⌜ (i < rayCount) × (length (now volume) ≡ volumeLength) ⌝ }
-    ensures { λ r. ⌜ r ≡ rayAt (now (volume .entry)) i ⌝ }
+pub(crate) fn ray_at(volume: &[f64], count: u32, i: u32) -> Ray
+    requires { ⌜ (i < rayCount) × (length (now volume) ≡ volumeLength count) ⌝ }
+    ensures { λ r. ⌜ r ≡ rayAt (now (volume .entry)) count i ⌝ }
 {
-    let from = RAYS_START + i as usize * 6;
+    let from = ray_start(count, i);
     Ray {
         start: vec3_at(volume, from),
         direction: vec3_at(volume, from + 3),

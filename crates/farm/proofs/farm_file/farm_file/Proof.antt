@@ -8,10 +8,13 @@ use borrow.Author.Needs.{needs}
 use borrow.Author.Tests.{le-leb, lt-leb, eq-eqb, ne-eqb, not-true, not-false}
 use lib.ListN.{length, length-map}
 use Rattle.number.specs.Answer.{refused, result}
+use Rattle.verdict.specs.Volume.{isCount}
 use Rattle.farm.specs.Directory.{largestFile, sectionCount, boxSections, wellFormed}
-use Rattle.farm.specs.FarmFile.{sized, allFlagged, inView, checked, slotCount, slots, Listing, listing, listed, farmFileCall}
+use Rattle.farm.specs.FarmFile.{volumeThere, countNumber, planeCount, sized, allFlagged, inView, checked, slotCount, slots, Listing, listing, listed, farmFileCall}
 use Rattle.farm.proofs.SectionsLeft.{as-many}
+use Rattle.farm.specs.Steps.{saidBy}
 use Rattle.farm.proofs.Placed.{at-least}
+use Rattle.farm.proofs.PlaneCounts.{said-whole, none-said, some-said}
 use Rattle.farm.proofs.farm_file.farm_file.Statement.{statement}
 use Rattle.farm.proofs.farm_file.farm_file.Tie as tie
 
@@ -35,20 +38,30 @@ module _ (b out : List ℕ) where
       malformed w = rw (← left, w)
 
       module _ (w : wellFormed b ≡ true) where
-        other-sizes : sized b ≡ false → listing (refused 10) out ≡ farmFileCall b out
+        no-volume : volumeThere b ≡ false → listing (refused 10) out ≡ farmFileCall b out
         unfolding checked
-        other-sizes s = rw (← left, w, s)
+        no-volume v = rw (← left, w, v)
 
-        module _ (s : sized b ≡ true) where
-          other-flags : allFlagged b ≡ false → listing (refused 3) out ≡ farmFileCall b out
+        module _ (v : volumeThere b ≡ true) where
+          no-count : isCount (countNumber b) ≡ false → listing (refused 12) out ≡ farmFileCall b out
           unfolding checked
-          other-flags f = rw (← left, w, s, f)
+          no-count c = rw (← left, w, v, c)
 
-          judged : (n : ℕ) (x : List ℕ) → allFlagged b ≡ true → n ≡ sectionCount b → x ≡ slots (map (inView b) (boxSections b)) → listing (result (n - 1)) x ≡ farmFileCall b out
-          unfolding checked
-          judged n x f e g =
-              let m = length-map (boxSections b) (inView b) ∙ as-many b 1 (sectionCount b - 1) in
-              rw (e, g, ← left, w, s, f) (ap (λ (k : ℕ). listing (result k) (slots (map (inView b) (boxSections b)))) (sym m))
+          module _ (c : isCount (countNumber b) ≡ true) where
+            other-sizes : sized b ≡ false → listing (refused 10) out ≡ farmFileCall b out
+            unfolding checked
+            other-sizes s = rw (← left, w, v, c, s)
+
+            module _ (s : sized b ≡ true) where
+              other-flags : allFlagged b ≡ false → listing (refused 3) out ≡ farmFileCall b out
+              unfolding checked
+              other-flags f = rw (← left, w, v, c, s, f)
+
+              judged : (n : ℕ) (x : List ℕ) → allFlagged b ≡ true → n ≡ sectionCount b → x ≡ slots (map (inView b) (boxSections b)) → listing (result (n - 1)) x ≡ farmFileCall b out
+              unfolding checked
+              judged n x f e g =
+                  let m = length-map (boxSections b) (inView b) ∙ as-many b 1 (sectionCount b - 1) in
+                  rw (e, g, ← left, w, v, c, s, f) (ap (λ (k : ℕ). listing (result k) (slots (map (inView b) (boxSections b)))) (sym m))
 
 -- a check that was passed, and one that was not
 passed : {r t : Bool} → r ≡ t → not r ≡ false → t ≡ true
@@ -70,59 +83,102 @@ returns-3 c =
     let given = room .before .before .before .before .args in
     malformed (given .file .now) (given .out .now) (room .before .if1 .left) (room .if2 .left) (stopped (form .is-well-formed .ensures) (c .if3 .taken))
 
-are-sized-requires : tie.Need-are-sized-requires
-are-sized-requires c κs = passed (c .before .is-well-formed .ensures) (c .if3 .left)
-
 returns-4 : tie.Need-returns-4
 returns-4 c =
-    let size = c .before in
-    let form = size .before in
+    let there = c .before in
+    let form = there .before in
     let room = form .before .before in
     let given = room .before .before .before .before .args in
-    other-sizes (given .file .now) (given .out .now) (room .before .if1 .left) (room .if2 .left) (passed (form .before .is-well-formed .ensures) (form .if3 .left))
-    (stopped (size .are-sized .ensures) (c .if4 .taken))
-
-are-flagged-requires : tie.Need-are-flagged-requires
-are-flagged-requires c κs =
-    let form = c .before .before in
-    (passed (form .before .is-well-formed .ensures) (form .if3 .left), passed (c .before .are-sized .ensures) (c .if4 .left))
+    no-volume (given .file .now) (given .out .now) (room .before .if1 .left) (room .if2 .left) (passed (form .before .is-well-formed .ensures) (form .if3 .left))
+    (stopped (there .has-volume .ensures) (c .if4 .taken))
 
 returns-5 : tie.Need-returns-5
 returns-5 c =
+    let count = c .before in
+    let there = count .before in
+    let form = there .before .before in
+    let room = form .before .before in
+    let given = room .before .before .before .before .args in
+    no-count (given .file .now) (given .out .now) (room .before .if1 .left) (room .if2 .left) (passed (form .before .is-well-formed .ensures) (form .if3 .left))
+    (passed (there .before .has-volume .ensures) (there .if4 .left)) (none-said (countNumber (given .file .now)) (sym (count .plane-count .ensures) ∙ c .if5 .taken))
+
+-- a count that is not 0 is one, and the file's
+is-count : (b : List ℕ) {n : ℕ} → n ≡ saidBy (countNumber b) → (n ≡ 0 → ⊥) → isCount (countNumber b) ≡ true
+is-count b e h = some-said (countNumber b) (λ z. h (e ∙ z))
+
+its-count : (b : List ℕ) {n : ℕ} → n ≡ saidBy (countNumber b) → (n ≡ 0 → ⊥) → n ≡ planeCount b
+its-count b e h = e ∙ said-whole (countNumber b) (is-count b e h)
+
+are-sized-requires : tie.Need-are-sized-requires
+are-sized-requires c κs =
+    let form = c .before .before .before .before in
+    let given = form .before .before .before .before .before .before .args in
+    (passed (form .before .is-well-formed .ensures) (form .if3 .left), its-count (given .file .now) (c .before .plane-count .ensures) (c .if5 .left))
+
+returns-6 : tie.Need-returns-6
+returns-6 c =
+    let size = c .before in
+    let count = size .before in
+    let there = count .before .before in
+    let form = there .before .before in
+    let room = form .before .before in
+    let given = room .before .before .before .before .args in
+    other-sizes (given .file .now) (given .out .now) (room .before .if1 .left) (room .if2 .left) (passed (form .before .is-well-formed .ensures) (form .if3 .left))
+    (passed (there .before .has-volume .ensures) (there .if4 .left)) (is-count (given .file .now) (count .before .plane-count .ensures) (count .if5 .left)) (stopped (size .are-sized .ensures) (c .if6 .taken))
+
+are-flagged-requires : tie.Need-are-flagged-requires
+are-flagged-requires c κs =
+    let form = c .before .before .before .before .before .before in
+    (passed (form .before .is-well-formed .ensures) (form .if3 .left), passed (c .before .are-sized .ensures) (c .if6 .left))
+
+returns-7 : tie.Need-returns-7
+returns-7 c =
     let flag = c .before in
     let size = flag .before in
-    let form = size .before .before in
+    let count = size .before .before in
+    let there = count .before .before in
+    let form = there .before .before in
     let room = form .before .before in
     let given = room .before .before .before .before .args in
     other-flags (given .file .now) (given .out .now) (room .before .if1 .left) (room .if2 .left) (passed (form .before .is-well-formed .ensures) (form .if3 .left))
-    (passed (size .before .are-sized .ensures) (size .if4 .left)) (stopped (flag .are-flagged .ensures) (c .if5 .taken))
+    (passed (there .before .has-volume .ensures) (there .if4 .left)) (is-count (given .file .now) (count .before .plane-count .ensures) (count .if5 .left))
+    (passed (size .before .are-sized .ensures) (size .if6 .left)) (stopped (flag .are-flagged .ensures) (c .if7 .taken))
 
 judge-requires : tie.Need-judge-requires
 judge-requires c κs =
     let flag = c .before in
     let size = flag .before .before in
-    let form = size .before .before in (
-      passed (form .before .is-well-formed .ensures) (form .if3 .left),
-      passed (size .before .are-sized .ensures) (size .if4 .left),
-      passed (flag .before .are-flagged .ensures) (flag .if5 .left),
-      form .before .before .if2 .left,
+    let count = size .before .before in
+    let form = count .before .before .before .before in
+    let given = form .before .before .before .before .before .before .args in (
+      record {
+        formed = passed (form .before .is-well-formed .ensures) (form .if3 .left);
+        count = is-count (given .file .now) (count .before .plane-count .ensures) (count .if5 .left);
+        sizes = passed (size .before .are-sized .ensures) (size .if6 .left);
+        flags = passed (flag .before .are-flagged .ensures) (flag .if7 .left);
+      },
+      (its-count (given .file .now) (count .before .plane-count .ensures) (count .if5 .left), form .before .before .if2 .left),
     )
 
-sub-result : tie.Need-sub-t15
-sub-result c =
-    let form = c .before .before .before .before .before .before .before .before .before in
-    omega (arith, c .word-32 .ensures, at-least _ (passed (form .before .is-well-formed .ensures) (form .if3 .left)))
+sub-t18 : tie.Need-sub-t18
+sub-t18 c =
+    let form = c .before .before .before .before .before .before .before .before .before .before .before .before .before in
+    let given = form .before .before .before .before .before .before .args in
+    omega (arith, c .word-32 .ensures, at-least (given .file .now) (passed (form .before .is-well-formed .ensures) (form .if3 .left)))
 
-returns-6 : tie.Need-returns-6
-returns-6 c =
+returns-8 : tie.Need-returns-8
+returns-8 c =
     let called = c .before .before .before in
     let flag = called .before .before in
     let size = flag .before .before in
-    let form = size .before .before in
+    let count = size .before .before in
+    let there = count .before .before in
+    let form = there .before .before in
     let room = form .before .before in
     let given = room .before .before .before .before .args in
     judged (given .file .now) (given .out .now) (room .before .if1 .left) (room .if2 .left) (passed (form .before .is-well-formed .ensures) (form .if3 .left))
-    (passed (size .before .are-sized .ensures) (size .if4 .left)) _ _ (passed (flag .before .are-flagged .ensures) (flag .if5 .left)) (c .word-32 .ensures) (called .judge .ensures)
+    (passed (there .before .has-volume .ensures) (there .if4 .left)) (is-count (given .file .now) (count .before .plane-count .ensures) (count .if5 .left))
+    (passed (size .before .are-sized .ensures) (size .if6 .left)) _ _ (passed (flag .before .are-flagged .ensures) (flag .if7 .left)) (c .word-32 .ensures) (called .judge .ensures)
 
 pub farm-file-spec : {M : Type 1} → statement M
 farm-file-spec =
@@ -132,12 +188,16 @@ farm-file-spec =
     returns-2
     (λ c κs. tt)
     returns-3
-    are-sized-requires
+    (λ c κs. tt)
     returns-4
-    are-flagged-requires
+    (λ c κs. tt)
     returns-5
+    are-sized-requires
+    returns-6
+    are-flagged-requires
+    returns-7
     judge-requires
     (λ c κs. tt)
-    sub-result
+    sub-t18
     (λ c. search needs)
-    returns-6)
+    returns-8)

@@ -10,7 +10,7 @@ use lib.Dec.{eqb}
 use Rattle.verdict.specs.Volume.{volumeLength}
 use Rattle.farm.specs.declared.directory.Section.{Section}
 use Rattle.farm.specs.Directory.{sectionCount, volumeSection, boxSections}
-use Rattle.farm.specs.FarmFile.{every, sized}
+use Rattle.farm.specs.FarmFile.{every, planeCount, sized}
 use Rattle.farm.proofs.SectionsLeft.{left, fails, holds, all-hold}
 use Rattle.farm.proofs.Placed.{at-least, at-most}
 use Rattle.farm.proofs.sections.are_sized.Statement.{statement}
@@ -20,10 +20,10 @@ abbrev test : Section → Bool
 test s = eqb (s .size) (8 * 23)
 
 abbrev Inv-loop : tie.InvT-loop
-Inv-loop file count i₀ i = (0 < i) × (i ≤ count) × (every test (left file count i) ≡ every test (boxSections file))
+Inv-loop file planes count size i₀ i = (0 < i) × (i ≤ count) × (every test (left file count i) ≡ every test (boxSections file))
 
 abbrev μ-loop : tie.MeasureT-loop
-μ-loop file count i₀ i = count - i
+μ-loop file planes count size i₀ i = count - i
 
 abbrev size : Section → ℕ
 size s = s .size
@@ -31,55 +31,90 @@ size s = s .size
 moved : {s t : Section} {n : ℕ} → s ≡ t → (size s ≡ n → ⊥) → size t ≡ n → ⊥
 moved q h e = h (ap size q ∙ e)
 
-module _ (b : List ℕ) (s : Section) (q : s ≡ volumeSection b) where
-  other-volume : (s .size ≡ 384 → ⊥) → false ≡ sized b
-  unfolding sized
-  other-volume h = sym (ap (λ (t : Section). eqb (t .size) (8 * volumeLength) && every test (boxSections b)) (sym q) ∙ ap (λ (t : Bool). t && every test (boxSections b)) (ne-eqb _ _ h))
+abbrev sizes : List ℕ → ℕ → ℕ → Bool
+sizes b size n = eqb size (8 * volumeLength n) && every test (boxSections b)
 
-  boxes-decide : (x : Bool) → s .size ≡ 384 → x ≡ every test (boxSections b) → x ≡ sized b
+-- the sizes by what was read: the section of the volume, how many planes it has, and so how many numbers
+module _ (b : List ℕ) (s : Section) (n l : ℕ) (q : s ≡ volumeSection b) (p : n ≡ planeCount b) (k : l ≡ volumeLength n) where
+  is : sizes b (s .size) n ≡ sized b
   unfolding sized
-  boxes-decide x h e =
-      e ∙ sym (ap (λ (t : Section). eqb (t .size) (8 * volumeLength) && every test (boxSections b)) (sym q) ∙ ap (λ (t : Bool). t && every test (boxSections b)) (eq-eqb _ _ h))
+  is = ap (λ (t : Section). sizes b (t .size) n) q ∙ ap (sizes b (volumeSection b .size)) p
+
+  other-volume : (s .size ≡ 8 * l → ⊥) → false ≡ sized b
+  other-volume h = sym (ap (λ (t : Bool). t && every test (boxSections b)) (ne-eqb _ _ (λ e. h (e ∙ ap (λ (m : ℕ). 8 * m) (sym k))))) ∙ is
+
+  boxes-decide : (x : Bool) → s .size ≡ 8 * l → x ≡ every test (boxSections b) → x ≡ sized b
+  boxes-decide x h e = e ∙ sym (ap (λ (t : Bool). t && every test (boxSections b)) (eq-eqb _ _ (h ∙ ap (λ (m : ℕ). 8 * m) k))) ∙ is
 
 returns : tie.Need-returns Inv-loop μ-loop
-returns c = other-volume _ _ (c .before .before .section-at .ensures) (c .if1 .taken)
+returns c =
+    let read = c .before in
+    let at = read .before .before in
+    let start = at .before .before .before in
+    other-volume (start .args .file .now) _ _ _ (at .section-at .ensures) (start .pre .1) (read .volume-length .ensures) (c .if1 .taken)
 
 loop-holds : tie.Need-loop-holds Inv-loop μ-loop
 loop-holds c =
-    let counted = c .before .before .before in
-    let b = counted .before .before .args .file .now in
-    (omega arith, omega (arith, at-least b (counted .before .before .pre), counted .word-32 .ensures), ap (λ (n : ℕ). every test (left b n 1)) (counted .word-32 .ensures))
+    let counted = c .before .before .before .before in
+    let start = counted .before .before in
+    let b = start .args .file .now in
+    (omega arith, omega (arith, at-least b (start .pre .0), counted .word-32 .ensures), ap (λ (n : ℕ). every test (left b n 1)) (counted .word-32 .ensures))
+
+section-at-requires-2 : tie.Need-section-at-requires-2 Inv-loop μ-loop
+section-at-requires-2 c κs =
+    let counted = c .before .before .before .before .before .before in
+    let start = counted .before .before in
+    omega (arith, at-most _ (start .pre .0), counted .word-32 .ensures)
 
 returns-2 : tie.Need-returns-2 Inv-loop μ-loop
 returns-2 c =
-    let at = c .before .before in
-    let l = at .before .before .loop in
-    let volume = at .before .before .before in
-    let known = volume .before .before in
-    let counted = known .before in
-    let b = counted .before .before .args .file .now in
-    boxes-decide b _ (known .section-at .ensures) _ (volume .if1 .left)
-    (fails b (counted .word-32 .result) (l .i) test (omega arith) (ne-eqb _ _ (moved (at .section-at2 .ensures) (c .if2 .taken))) ∙ l .inv .2)
+    let box = c .before .before in
+    let l = box .before .before .loop in
+    let sized = box .before .before .before in
+    let read = sized .before in
+    let at = read .before .before in
+    let counted = at .before in
+    let start = counted .before .before in
+    let b = start .args .file .now in
+    boxes-decide b _ _ _ (at .section-at .ensures) (start .pre .1) (read .volume-length .ensures) _ (sized .if1 .left)
+    (fails b (counted .word-32 .result) (l .i) test (omega arith) (ne-eqb _ _ (moved (box .section-at2 .ensures) (c .if2 .taken))) ∙ l .inv .2)
 
 loop-again : tie.Need-loop-again Inv-loop μ-loop
 loop-again c =
-    let at = c .before .before in
-    let l = at .before .before .loop in
-    let volume = at .before .before .before in
-    let counted = volume .before .before .before in
+    let box = c .before .before in
+    let l = box .before .before .loop in
+    let counted = box .before .before .before .before .before .before .before in
     let b = counted .before .before .args .file .now in
-    (omega arith, omega arith, holds b (counted .word-32 .result) (l .i) test (omega arith) (eq-eqb _ _ (ap size (sym (at .section-at2 .ensures)) ∙ c .if2 .left)) ∙ l .inv .2)
+    (omega arith, omega arith, holds b (counted .word-32 .result) (l .i) test (omega arith) (eq-eqb _ _ (ap size (sym (box .section-at2 .ensures)) ∙ c .if2 .left)) ∙ l .inv .2)
 
 returns-3 : tie.Need-returns-3 Inv-loop μ-loop
 returns-3 c =
     let l = c .before .loop in
-    let volume = c .before .before in
-    let known = volume .before .before in
-    let counted = known .before in
-    let b = counted .before .before .args .file .now in
-    boxes-decide b _ (known .section-at .ensures) _ (volume .if1 .left) (all-hold b (counted .word-32 .result) (l .i) test (omega arith) ∙ l .inv .2)
+    let sized = c .before .before in
+    let read = sized .before in
+    let at = read .before .before in
+    let counted = at .before in
+    let start = counted .before .before in
+    let b = start .args .file .now in
+    boxes-decide b _ _ _ (at .section-at .ensures) (start .pre .1) (read .volume-length .ensures) _ (sized .if1 .left) (all-hold b (counted .word-32 .result) (l .i) test (omega arith) ∙ l .inv .2)
 
 pub are-sized-spec : {M : Type 1} → statement M
 are-sized-spec =
     tie.close
-    (tie.spec Inv-loop μ-loop (λ c κs. tt) (λ c. search needs) (λ c κs. omega arith) returns loop-holds (λ c κs. omega (arith, at-most _ (c .before .before .before .before .before .before .before .pre), c .before .before .before .before .before .word-32 .ensures)) returns-2 (λ c. omega arith) (λ c. omega arith) loop-again returns-3)
+    (tie.spec
+    Inv-loop
+    μ-loop
+    (λ c κs. tt)
+    (λ c. search needs)
+    (λ c κs. omega arith)
+    (λ c. search needs)
+    (λ c κs. tt)
+    (λ c. omega (arith, c .volume-length .ensures))
+    returns
+    loop-holds
+    section-at-requires-2
+    returns-2
+    (λ c. omega arith)
+    (λ c. omega arith)
+    loop-again
+    returns-3)

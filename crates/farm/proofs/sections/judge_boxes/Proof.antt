@@ -8,7 +8,7 @@ use lib.ListN.{length, length-set}
 use Rattle.farm.specs.Directory.{sectionCount, sectionsFrom, boxSections}
 use Rattle.farm.specs.FarmFile.{inView, slotCount, noBox, slots}
 use Rattle.farm.proofs.Placed.{at-least, at-most}
-use Rattle.farm.proofs.Slots.{judged, none-judged, next-judged, volume-length, inside, is-flagged, slot-is}
+use Rattle.farm.proofs.Slots.{judged, none-judged, next-judged, inside, slot-is}
 use Rattle.farm.proofs.sections.judge_boxes.Statement.{statement}
 use Rattle.farm.proofs.sections.judge_boxes.Tie as tie
 
@@ -41,8 +41,8 @@ loop-again c =
     let start = counted .before .before .before .before .before .before .before .before in
     let b = start .args .file .now in
     let n = counted .word-32 .ensures in
-    let most = at-most b (start .pre .0 .0) in
-    let slot = slot-is b (start .pre .0 .1) (l .i) (omega (arith, n)) _ (at .section-at .ensures) (start .args .volume .now) _ (start .pre .1 .0) (c .judged .ensures) in
+    let most = at-most b (start .pre .0 .formed) in
+    let slot = slot-is b (start .pre .0) (l .i) (omega (arith, n)) _ (at .section-at .ensures) (start .args .volume .now) _ (start .pre .1 .0) (c .judged .ensures) in
     (omega arith, next-judged b (l .i) _ (l .out) (omega (arith, n, most)) (l .inv .1) slot, simp length-set (l .inv .2))
 
 returns : tie.Need-returns Inv-loop μ-loop
@@ -52,19 +52,19 @@ returns c =
     let start = counted .before .before .before .before .before .before .before .before in
     let b = start .args .file .now in
     let n = counted .word-32 .ensures in
-    l .inv .1 ∙ ap (λ (k : ℕ). slots (judged b k)) (omega (arith, n, at-least b (start .pre .0 .0)))
+    l .inv .1 ∙ ap (λ (k : ℕ). slots (judged b k)) (omega (arith, n, at-least b (start .pre .0 .formed)))
 
 section-at-requires : tie.Need-section-at-requires Inv-loop μ-loop
 section-at-requires c κs =
     let counted = c .before .before in
     let start = counted .before .before .before .before .before .before .before .before in
-    omega (arith, counted .word-32 .ensures, at-most _ (start .pre .0 .0))
+    omega (arith, counted .word-32 .ensures, at-most _ (start .pre .0 .formed))
 
 slice-write-out : tie.Need-slice-write-out Inv-loop μ-loop
 slice-write-out c =
     let counted = c .before .before .before .before .before in
     let start = counted .before .before .before .before .before .before .before .before in
-    omega (arith, counted .word-32 .ensures, at-most _ (start .pre .0 .0))
+    omega (arith, counted .word-32 .ensures, at-most _ (start .pre .0 .formed))
 
 same-length : tie.Need-same-length Inv-loop μ-loop
 same-length c =
@@ -77,13 +77,7 @@ judged-requires c κs =
     let l = at .before .before .loop in
     let counted = at .before .before .before in
     let start = counted .before .before .before .before .before .before .before .before in
-    let b = start .args .file .now in
-    let sizes = start .pre .0 .1 in
-    let n = counted .word-32 .ensures in (
-      ap length (start .pre .1 .0) ∙ volume-length b sizes,
-      inside b sizes (l .i) (omega (arith, n)) _ (at .section-at .ensures) (start .pre .0 .0),
-      is-flagged b sizes (l .i) (omega (arith, n)) _ (at .section-at .ensures) (start .pre .0 .2),
-    )
+    inside (start .args .file .now) (start .pre .0) (l .i) (omega (arith, counted .word-32 .ensures)) _ (at .section-at .ensures)
 
 pub judge-boxes-spec : {M : Type 1} → statement M
 judge-boxes-spec =
@@ -94,7 +88,7 @@ judge-boxes-spec =
     (λ c κs. tt)
     (λ c κs. tt)
     (λ c. search needs)
-    (λ c. let start = c .before .before .before .before .before .before .before .before in omega (arith, at-least _ (start .pre .0 .0), c .word-32 .ensures))
+    (λ c. let start = c .before .before .before .before .before .before .before .before in omega (arith, at-least _ (start .pre .0 .formed), c .word-32 .ensures))
     loop-holds
     (λ c. omega arith)
     section-at-requires

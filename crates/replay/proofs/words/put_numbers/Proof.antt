@@ -13,7 +13,7 @@ use Rattle.replay.specs.Words.{putWords}
 use Rattle.replay.proofs.words.put_numbers.Statement.{statement}
 use Rattle.replay.proofs.words.put_numbers.Tie as tie
 
-put-front : (b : List ℕ) (l ys : List Float) (n k : ℕ) → 640 ≡ length b → k ≡ min (min n 80) (length l) → ys ≡ loaded b 0 (take k l) → ys ++ drop k l ≡ putWords n b l
+put-front : (b : List ℕ) (l ys : List Float) (n k : ℕ) → 1536 ≡ length b → k ≡ min (min n 192) (length l) → ys ≡ loaded b 0 (take k l) → ys ++ drop k l ≡ putWords n b l
 put-front b l ys n k h e q =
     let m = length-take-le k l (omega arith) in
     ap (λ (t : List Float). t ++ drop k l) (q ∙ all-there b 0 (take k l) (omega (arith, m)) ∙ ap (numbersAt b 0) m) ∙ ap (λ (j : ℕ). numbersAt b 0 j ++ drop j l) e
@@ -26,7 +26,7 @@ returns c =
     let filled = c .before .before in
     let least = filled .before .before .before in
     let given = least .before .before .before .args in
-    let n : least .least2 .result ≡ min (min (given .count) 80) (length (given .numbers .now)) = omega (arith, least .least2 .ensures, least .before .least .ensures) in
+    let n : least .least2 .result ≡ min (min (given .count) 192) (length (given .numbers .now)) = omega (arith, least .least2 .ensures, least .before .least .ensures) in
     put-front (given .bytes .now) (given .numbers .now) _ (given .count) _ (omega arith) n (filled .load .ensures)
 
 pub put-numbers-spec : {M : Type 1} → statement M

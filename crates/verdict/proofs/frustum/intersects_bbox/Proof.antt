@@ -1,19 +1,20 @@
 -- `frustum::intersects_bbox` meets its contract: an empty range by its test, any other as the planes left decide. Assumes nothing.
-use mathlib.Core.Path.{_≡_, refl, sym, ap, _∙_}
+use mathlib.Core.Path.{_≡_, sym, ap, _∙_}
 use mathlib.Core.Bool.{Bool, true, false, not, _&&_}
 use mathlib.Core.List.{List}
-use Prim.Native.Nat.{_-_, _≤_}
+use Prim.Native.Nat.{ℕ, _-_, _≤_}
 use native.Mathlib.Omega.{arith}
 use borrow.Author.Needs.{needs}
+use lib.Ieee.{Float}
 use Rattle.matrix.specs.declared.matrix.Mat4d.{Mat4d}
 use Rattle.matrix.specs.declared.range.Range3d.{Range3d}
 use Rattle.matrix.specs.Range.{isEmpty}
 use Rattle.verdict.specs.declared.plane.Plane.{Plane}
 use Rattle.verdict.specs.declared.bbox.BBox3d.{BBox3d}
 use Rattle.verdict.specs.Plane.{reachesPositiveSide, underInverseTranspose}
-use Rattle.verdict.specs.Volume.{planeCount, planesOf}
+use Rattle.verdict.specs.Volume.{planesOf}
 use Rattle.verdict.specs.Frustum.{every, boxOf, intoSpaceOf}
-use Rattle.verdict.proofs.PlanesLeft.{planesLeft, fails, holds, all-hold}
+use Rattle.verdict.proofs.PlanesLeft.{planesLeft, all, fails, holds, all-hold}
 use Rattle.verdict.proofs.frustum.intersects_bbox.Statement.{statement}
 use Rattle.verdict.proofs.frustum.intersects_bbox.Tie as tie
 
@@ -29,20 +30,23 @@ module _ (ps : List Plane) (b : BBox3d) (z : Bool) (q : z ≡ isEmpty (b .range)
   unfolding boxOf
   a-range m e h = ap (λ (n : Mat4d). every (test n (b .range)) ps) h ∙ sym (ap (λ (t : Bool). not t && every (test (intoSpaceOf b) (b .range)) ps) (sym q ∙ e))
 
+left-all : (s : List Float) (n : ℕ) (m : Mat4d) (r : Range3d) → every (test m r) (planesLeft s n 0) ≡ every (test m r) (planesOf s n)
+left-all s n m r = ap (λ (ps : List Plane). every (test m r) ps) (all s n)
+
 reached : (m : Mat4d) (r : Range3d) (z : Bool) (p p' q : Plane) → z ≡ reachesPositiveSide p' r → p' ≡ underInverseTranspose m p → p ≡ q → z ≡ test m r q
 reached m r z p p' q e f g = e ∙ ap (λ (t : Plane). reachesPositiveSide t r) f ∙ ap (test m r) g
 
 abbrev Inv-loop : tie.InvT-loop
-Inv-loop volume range into i₀ i = (i ≤ planeCount) × (every (test into range) (planesLeft volume i) ≡ every (test into range) (planesOf volume))
+Inv-loop volume count range into i₀ i = (i ≤ count) × (every (test into range) (planesLeft volume count i) ≡ every (test into range) (planesOf volume count))
 
 abbrev μ-loop : tie.MeasureT-loop
-μ-loop volume range into i₀ i = planeCount - i
+μ-loop volume count range into i₀ i = count - i
 
 returns : tie.Need-returns Inv-loop μ-loop
 returns c = no-range _ _ _ (c .before .is-empty .ensures) (c .if1 .taken)
 
 loop-holds : tie.Need-loop-holds Inv-loop μ-loop
-loop-holds c = (omega arith, refl)
+loop-holds c = (omega arith, left-all _ _ _ _)
 
 returns-2 : tie.Need-returns-2 Inv-loop μ-loop
 returns-2 c =
@@ -53,7 +57,7 @@ returns-2 c =
     let l = at-loop .loop in
     let into = at-loop .before in
     let some = into .before in
-    fails (test _ _) _ (l .i) _ (omega arith) (reached _ _ _ _ _ _ (to .reaches-positive-side .ensures) (under .under-inverse-transpose .ensures) (at .plane-at .ensures)) (c .if2 .taken)
+    fails (test _ _) _ _ (l .i) _ (omega arith) (reached _ _ _ _ _ _ (to .reaches-positive-side .ensures) (under .under-inverse-transpose .ensures) (at .plane-at .ensures)) (c .if2 .taken)
     ∙ l .inv .1 ∙ a-range _ _ _ (some .before .is-empty .ensures) _ (some .if1 .left) (into .into-space .ensures)
 
 add-i : tie.Need-add-i Inv-loop μ-loop
@@ -69,7 +73,7 @@ loop-again c =
     let at = under .before in
     let l = at .before .before .loop in (
       omega arith,
-      holds (test _ _) _ (l .i) _ (omega arith) (reached _ _ _ _ _ _ (to .reaches-positive-side .ensures) (under .under-inverse-transpose .ensures) (at .plane-at .ensures)) (c .if2 .left) ∙ l .inv .1,
+      holds (test _ _) _ _ (l .i) _ (omega arith) (reached _ _ _ _ _ _ (to .reaches-positive-side .ensures) (under .under-inverse-transpose .ensures) (at .plane-at .ensures)) (c .if2 .left) ∙ l .inv .1,
     )
 
 returns-3 : tie.Need-returns-3 Inv-loop μ-loop
@@ -78,9 +82,9 @@ returns-3 c =
     let l = at-loop .loop in
     let into = at-loop .before in
     let some = into .before in
-    all-hold (test _ _) _ (l .i) (omega arith) ∙ l .inv .1 ∙ a-range _ _ _ (some .before .is-empty .ensures) _ (some .if1 .left) (into .into-space .ensures)
+    all-hold (test _ _) _ _ (l .i) (omega arith) ∙ l .inv .1 ∙ a-range _ _ _ (some .before .is-empty .ensures) _ (some .if1 .left) (into .into-space .ensures)
 
 pub intersects-bbox-spec : {M : Type 1} → statement M
 intersects-bbox-spec =
     tie.close
-    (tie.spec Inv-loop μ-loop (λ c κs. tt) returns (λ c κs. tt) loop-holds (λ c κs. (omega arith, search needs)) (λ c κs. tt) (λ c κs. tt) returns-2 add-i loop-less loop-again returns-3)
+    (tie.spec Inv-loop μ-loop (λ c κs. tt) returns (λ c κs. tt) loop-holds (λ c κs. omega arith) (λ c κs. tt) (λ c κs. tt) returns-2 add-i loop-less loop-again returns-3)

@@ -7,7 +7,7 @@ use borrow.Author.Tests.{eq-eqb, ne-eqb}
 use Rattle.matrix.specs.Constants.{positiveZero, one}
 use Rattle.matrix.specs.declared.vec.Vec3d.{Vec3d}
 use Rattle.verdict.specs.declared.plane.Plane.{Plane}
-use Rattle.verdict.specs.Volume.{planesOf}
+use Rattle.verdict.specs.Volume.{fewestPlanes, originalPlanes}
 use Rattle.verdict.specs.Frustum.{every, hasEnd, spanLeft}
 use Rattle.verdict.specs.Passes.{sideLeft}
 use Rattle.verdict.proofs.Passes.{some-end}
@@ -21,16 +21,16 @@ returns : tie.Need-returns
 returns c =
     let start = c .before .before in
     let g = start .args in
-    settled (planesOf (g .volume .now)) (g .a) (g .b) false _
-    (some-end (g .volume .now) (g .a) (g .b) _ _ (start .pre .1) (start .pre .2) ∙ ne-eqb _ _ (c .if1 .taken)) refl
+    settled (originalPlanes (g .volume .now)) (g .a) (g .b) false _
+    (some-end (g .volume .now) fewestPlanes (g .a) (g .b) _ _ (start .pre .1) (start .pre .2) ∙ ne-eqb _ _ (c .if1 .taken)) refl
 
 returns-2 : tie.Need-returns-2
 returns-2 c =
     let some = c .before in
     let start = some .before .before in
     let g = start .args in
-    settled (planesOf (g .volume .now)) (g .a) (g .b) true _
-    (some-end (g .volume .now) (g .a) (g .b) _ _ (start .pre .1) (start .pre .2) ∙ eq-eqb _ _ (some .if1 .left)) (c .span-left .ensures)
+    settled (originalPlanes (g .volume .now)) (g .a) (g .b) true _
+    (some-end (g .volume .now) fewestPlanes (g .a) (g .b) _ _ (start .pre .1) (start .pre .2) ∙ eq-eqb _ _ (some .if1 .left)) (c .span-left .ensures)
 
 pub side-in-view-spec : {M : Type 1} → statement M
 side-in-view-spec = tie.close (tie.spec returns (λ c κs. search needs) returns-2)
