@@ -40,10 +40,7 @@ struct Engine<'a> {
 
 impl Engine<'_> {
     fn call(&self, ask: Ask, records: &[&[f64]], out: Lent) -> Result<(), String> {
-        let mut ins = [Lent::NONE; 4];
-        for (lent, record) in ins.iter_mut().zip(records) {
-            *lent = Lent::to_read(record);
-        }
+        let ins = Lent::all(records);
         match self.functions[ask as usize].expect("asked only if exported").call(&ins, out) {
             0 => Ok(()),
             refusal => Err(format!("{} of {} is refused: {refusal}", NAMES[ask as usize], self.who)),

@@ -44,6 +44,15 @@ impl Lent {
         Lent { at: numbers.as_mut_ptr(), len: numbers.len() }
     }
 
+    /// The inputs of a call, of which there are as many as records.
+    pub fn all(records: &[&[f64]]) -> Ins {
+        let mut ins = [Lent::NONE; INPUTS];
+        for (lent, record) in ins.iter_mut().zip(records) {
+            *lent = Lent::to_read(record);
+        }
+        ins
+    }
+
     pub unsafe fn slice<'a>(self) -> &'a [f64] {
         unsafe { slice::from_raw_parts(self.at, self.len) }
     }

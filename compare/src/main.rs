@@ -5,6 +5,7 @@
 //!     compare grid [COUNT]
 //!     compare farm [COUNT]
 //!     compare bench [FUNCTION..]
+//!     compare survey [FARMS]
 //!     compare record [FILE]
 //!     compare record-farm FOLDER
 //!     compare lines
@@ -29,6 +30,7 @@ mod scalar;
 mod signs;
 #[cfg(test)]
 mod slips;
+mod survey;
 mod trial;
 mod words;
 
@@ -45,6 +47,9 @@ use trial::Trial;
 /// Cases for each function where no count is given, and farm files.
 const COUNT: u64 = 2_000_000;
 const FILES: u64 = 10_000_000;
+
+/// Farms of a survey where no number is given.
+const FARMS: u64 = 20_000;
 
 fn main() -> ExitCode {
     let words: Vec<String> = env::args().skip(1).collect();
@@ -63,7 +68,8 @@ fn main() -> ExitCode {
         ["run", ref rest @ ..] => compared(rest),
         ["grid", ref rest @ ..] => checked(rest),
         ["farm", ref rest @ ..] => read(rest),
-        _ => Err(String::from("run | grid | farm | bench | record | record-farm | lines")),
+        ["survey", ref rest @ ..] => surveyed(rest),
+        _ => Err(String::from("run | grid | farm | bench | survey | record | record-farm | lines")),
     };
     match done {
         Ok(true) => ExitCode::SUCCESS,
@@ -99,6 +105,14 @@ fn read(words: &[&str]) -> Result<bool, String> {
     let program = env::var_os("FARM_FILE").ok_or("FARM_FILE names the program")?;
     let trials: [&dyn Trial; 2] = [&FarmFiles::of_archive(), &Program::at(program.into())];
     Ok(run::run(trials.into_iter(), count, seed()?))
+}
+
+/// A season's portfolio, timed and compared.
+fn surveyed(words: &[&str]) -> Result<bool, String> {
+    let (farms, []) = counted(words, FARMS)? else {
+        return Err(String::from("survey [FARMS]"));
+    };
+    survey::survey(&ops::all(), farms, seed()?)
 }
 
 /// The count that may come first, and the words after it.

@@ -94,6 +94,11 @@ pub fn cross(a: Point, b: Point) -> Point {
     [a[1] * b[2] - a[2] * b[1], a[2] * b[0] - a[0] * b[2], a[0] * b[1] - a[1] * b[0]]
 }
 
+/// The way from `b` to `a`.
+pub fn difference(a: Point, b: Point) -> Point {
+    array::from_fn(|i| a[i] - b[i])
+}
+
 /// `a` and `t` times `b`.
 pub fn along(a: Point, t: f64, b: Point) -> Point {
     array::from_fn(|i| a[i] + t * b[i])

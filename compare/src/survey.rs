@@ -1,0 +1,283 @@
+//! A season's portfolio put to both sides: how many blocks, rays, planes and
+//! cameras a second, and how much of our time goes into roots.
+
+use crate::exported::of_archive;
+use crate::inputs::{Boxed, Placed, Point, Rng, SurveyedFarm, Volume, cross, difference, dot};
+use crate::judge;
+use crate::lent::{Ins, Lent, Record, Side, Single};
+use crate::op::Op;
+use crate::rust;
+use openusd::gf;
+use std::hint::black_box;
+use std::iter::Sum;
+use std::time::{Duration, Instant};
+
+/// How many farms are in memory at a time, and how many times each side is
+/// timed on them, in turn; the median counts.
+const BATCH: u64 = 32;
+const ROUNDS: usize = 3;
+
+type Root = unsafe extern "C" fn(f64) -> f64;
+
+/// One kind of call that a farm asks for.
+struct Work<'a> {
+    name: &'static str,
+    rust: &'a dyn Side,
+    ours: &'a dyn Side,
+    /// How many numbers it gives; a verdict is in the first half of one.
+    gives: usize,
+    calls: Box<dyn Fn(&Farm) -> Vec<Ins>>,
+    roots: Box<dyn Fn(&Farm) -> Vec<f64>>,
+}
+
+/// A farm, with its focal length as it is lent.
+struct Farm {
+    surveyed: SurveyedFarm,
+    focal_length: Single,
+}
+
+/// What came of some calls.
+#[derive(Clone, Copy, Default)]
+struct Spent {
+    calls: usize,
+    /// Answered with a yes, or with a result where there is no verdict.
+    yes: usize,
+    differences: usize,
+    ours: Duration,
+    rust: Duration,
+    roots: usize,
+    in_roots: Duration,
+}
+
+/// Surveys so many farms, and tells whether both sides agree.
+pub fn survey(ops: &[Box<dyn Op>], farms: u64, seed: u64) -> Result<bool, String> {
+    let all = works(ops)?;
+    let root: Option<Root> = of_archive!(gf_sqrt: fn(x: f64) -> f64);
+    let root = root.ok_or("the archive has no gf_sqrt")?;
+    let mut spent = vec![Spent::default(); all.len()];
+    for (batch, first) in (0..farms).step_by(BATCH as usize).enumerate() {
+        let numbers = first..farms.min(first + BATCH);
+        let farms: Vec<Farm> = numbers.map(|number| Farm::drawn(&mut Rng::at(seed, number))).collect();
+        for (work, spent) in all.iter().zip(&mut spent) {
+            *spent = [*spent, work.spent(&farms, root, batch % 2 == 0)].into_iter().sum();
+        }
+    }
+    print(&all, &spent, farms, seed);
+    Ok(spent.iter().all(|spent| spent.differences == 0))
+}
+
+/// The kinds of call; blocks first, by how they are placed.
+fn works(ops: &[Box<dyn Op>]) -> Result<Vec<Work<'_>>, String> {
+    let work = |name, function: &str, gives, calls, roots| {
+        let op = ops.iter().find(|op| op.name() == function);
+        match op.and_then(|op| op.sides()) {
+            Some([Some(rust), Some(ours)]) => Ok(Work { name, rust, ours, gives, calls, roots }),
+            _ => Err(format!("the archive has no {function}")),
+        }
+    };
+    let blocks = |name, placed| work(name, "intersects_bbox", 1, block_calls(placed), block_roots(placed));
+    Ok(vec![
+        blocks("blocks, rigid", Placed::Rigid)?,
+        blocks("blocks, scaled", Placed::Scaled)?,
+        blocks("blocks, sheared", Placed::Sheared)?,
+        work(
+            "rays on triangles",
+            "ray_intersect_triangle",
+            5,
+            Box::new(|farm: &Farm| {
+                farm.surveyed.hail.iter().map(|(ray, [a, b, c])| Lent::all(&[ray, a, b, c])).collect()
+            }),
+            Box::new(|farm: &Farm| farm.surveyed.hail.iter().map(|&(_, corners)| plane_root(corners)).collect()),
+        )?,
+        work(
+            "planes from points",
+            "plane_from_points",
+            4,
+            Box::new(|farm: &Farm| farm.surveyed.panels.iter().map(|[a, b, c]| Lent::all(&[a, b, c])).collect()),
+            Box::new(|farm: &Farm| farm.surveyed.panels.iter().map(|&corners| plane_root(corners)).collect()),
+        )?,
+        work(
+            "cameras",
+            "camera_set_from_view_and_projection",
+            24,
+            Box::new(|farm: &Farm| {
+                let (view, projection, _) = &farm.surveyed.camera;
+                vec![Lent::all(&[view, projection, farm.focal_length.numbers()])]
+            }),
+            Box::new(|_: &Farm| vec![]),
+        )?,
+    ])
+}
+
+/// How many of the works are blocks.
+const BLOCKS: usize = 3;
+
+fn block_calls(placed: Placed) -> Box<dyn Fn(&Farm) -> Vec<Ins>> {
+    Box::new(move |farm| {
+        let blocks = farm.surveyed.blocks.iter().filter(|block| block.0 == placed);
+        blocks.map(|(_, block)| Lent::all(&[farm.surveyed.view.numbers(), block])).collect()
+    })
+}
+
+// The roots that our calls take, by the number that each is taken of.
+
+fn block_roots(placed: Placed) -> Box<dyn Fn(&Farm) -> Vec<f64>> {
+    Box::new(move |farm| {
+        let blocks = farm.surveyed.blocks.iter().filter(|block| block.0 == placed);
+        blocks.flat_map(|(_, block)| box_roots(&farm.surveyed.view, block)).collect()
+    })
+}
+
+/// Of each plane that the box verdict carries into the box's space, up to the
+/// first that the box does not reach, but for those that need none.
+fn box_roots(view: &Volume, block: &Boxed) -> Vec<f64> {
+    let block = rust::boxed(block).expect("a flag");
+    let into = if block.is_degenerate() { gf::Mat4d::IDENTITY } else { block.matrix().transpose() };
+    let mut roots = vec![];
+    for plane in rust::planes(view.numbers()).planes {
+        let carried = into.transform_homogeneous(plane.equation());
+        if takes_root(block.range(), carried) {
+            let normal = [carried.x, carried.y, carried.z];
+            roots.push(dot(normal, normal));
+        }
+        if !gf::Plane::from_equation(carried).reaches_positive_side(block.range()) {
+            break;
+        }
+    }
+    roots
+}
+
+/// The engine's own rule, `holdsOrigin` and `originAhead` of
+/// crates/verdict/specs/Origin.antt: where a range holds the origin and a plane
+/// has the origin on its positive side, the length of the normal is not needed.
+fn takes_root(range: gf::Range3d, carried: gf::Vec4d) -> bool {
+    let near = |x: f64| x.abs() < 1e18;
+    let (min, max) = (range.min(), range.max());
+    let holds_origin = (0..3).all(|i| min[i] <= 0.0 && 0.0 <= max[i] && near(max[i]));
+    let origin_ahead = 0.0 <= carried.w && rust::of_homogeneous(carried).into_iter().all(near);
+    !(holds_origin && origin_ahead)
+}
+
+/// Of the normal of a plane through three points.
+fn plane_root([a, b, c]: [Point; 3]) -> f64 {
+    let normal = cross(difference(b, a), difference(c, a));
+    dot(normal, normal)
+}
+
+impl Farm {
+    fn drawn(rng: &mut Rng) -> Farm {
+        let surveyed = SurveyedFarm::drawn(rng);
+        Farm { focal_length: surveyed.camera.2.into(), surveyed }
+    }
+}
+
+impl Work<'_> {
+    /// Compares the sides on all calls of some farms, which brings these to
+    /// the processor, then times them in turn.
+    fn spent(&self, farms: &[Farm], root: Root, ours_first: bool) -> Spent {
+        let calls: Vec<Ins> = farms.iter().flat_map(&self.calls).collect();
+        let roots: Vec<f64> = farms.iter().flat_map(&self.roots).collect();
+        let mut spent = Spent { calls: calls.len(), roots: roots.len(), ..Spent::default() };
+        for ins in &calls {
+            let (rust, ours) = (self.answer(self.rust, ins), self.answer(self.ours, ins));
+            let agree = rust.0 == ours.0 && rust.1.iter().zip(&ours.1).all(|(&rust, &ours)| judge::signed(rust, ours));
+            spent.differences += usize::from(!agree);
+            spent.yes += usize::from(ours.0 == 0 && (self.gives > 1 || ours.1[0].to_bits() as u32 == 1));
+        }
+        let mut out = vec![0.0; self.gives];
+        let mut pass = |side: &dyn Side| {
+            let (calls, out) = (black_box(&calls[..]), Lent::to_write(&mut out));
+            timed(|| side.pass(calls, out))
+        };
+        let mut times = [(); 3].map(|()| vec![]);
+        for _ in 0..ROUNDS {
+            for ours in [ours_first, !ours_first] {
+                times[usize::from(ours)].push(pass(if ours { self.ours } else { self.rust }));
+            }
+            times[2].push(timed(|| take(black_box(root), &roots)));
+        }
+        // No root is no time, where the clock has some.
+        if roots.is_empty() {
+            times[2].fill(Duration::ZERO);
+        }
+        [spent.rust, spent.ours, spent.in_roots] = times.map(median);
+        spent
+    }
+
+    /// The status of a call and what it writes.
+    fn answer(&self, side: &dyn Side, ins: &Ins) -> (u32, Vec<f64>) {
+        let mut out = vec![0.0; self.gives];
+        let status = side.call(ins, Lent::to_write(&mut out));
+        (status, out)
+    }
+}
+
+fn timed(work: impl FnOnce()) -> Duration {
+    let start = Instant::now();
+    work();
+    start.elapsed()
+}
+
+fn take(root: Root, of: &[f64]) {
+    for &x in of {
+        // It has no condition to be called.
+        black_box(unsafe { root(black_box(x)) });
+    }
+}
+
+fn median(mut times: Vec<Duration>) -> Duration {
+    times.sort();
+    times[times.len() / 2]
+}
+
+impl Sum for Spent {
+    fn sum<I: Iterator<Item = Spent>>(all: I) -> Spent {
+        all.fold(Spent::default(), |a, b| Spent {
+            calls: a.calls + b.calls,
+            yes: a.yes + b.yes,
+            differences: a.differences + b.differences,
+            ours: a.ours + b.ours,
+            rust: a.rust + b.rust,
+            roots: a.roots + b.roots,
+            in_roots: a.in_roots + b.in_roots,
+        })
+    }
+}
+
+fn print(all: &[Work], spent: &[Spent], farms: u64, seed: u64) {
+    println!("{farms} farms, seed {seed}");
+    println!(
+        "{:<20} {:>10} {:>6} {:>12} {:>14} {:>14} {:>12} {:>10} {:>9}",
+        "work", "calls", "yes", "differences", "ours a second", "Rust a second", "ours / Rust", "roots", "in roots"
+    );
+    for (i, (work, spent_on)) in all.iter().zip(spent).enumerate() {
+        line(work.name, spent_on);
+        if i + 1 == BLOCKS {
+            line("blocks", &spent[..BLOCKS].iter().copied().sum());
+        }
+    }
+    let whole: Spent = spent.iter().copied().sum();
+    let [ours, rust] = [whole.ours, whole.rust].map(|time| time.as_secs_f64());
+    let in_roots = whole.in_roots.as_secs_f64() / ours;
+    println!(
+        "whole portfolio: ours {ours:.3} s, Rust {rust:.3} s, ours / Rust {:.2}, of our time in roots {:.0} %",
+        ours / rust,
+        100.0 * in_roots
+    );
+}
+
+fn line(name: &str, spent: &Spent) {
+    let calls = spent.calls as f64;
+    let [ours, rust, in_roots] = [spent.ours, spent.rust, spent.in_roots].map(|time| time.as_secs_f64());
+    println!(
+        "{name:<20} {:>10} {:>4.0} % {:>12} {:>14.0} {:>14.0} {:>12.2} {:>10} {:>7.0} %",
+        spent.calls,
+        100.0 * spent.yes as f64 / calls,
+        spent.differences,
+        calls / ours,
+        calls / rust,
+        ours / rust,
+        spent.roots,
+        100.0 * in_roots / ours
+    );
+}
