@@ -13,6 +13,7 @@ pub mod Reading
 pub mod WholeRoot
 pub mod RootRounding
 pub mod RootBits
+pub mod Search
 pub mod NearestRoot
 pub mod SquareRoot
 pub mod Stores

@@ -2,6 +2,7 @@
 pub mod Arithmetic
 pub mod Extremes
 pub mod Root
+pub mod Search
 pub mod Answer
 pub mod Slice
 pub mod Bytes

@@ -2,15 +2,12 @@
 -- speaks of it. Definitions only.
 use mathlib.Core.Path.{_≡_}
 use mathlib.Core.Bool.{Bool, cond}
-use Prim.Native.Nat.{ℕ, zero, suc, _+_, _-_, _*_, _/_, _%_, _^_, _≤_, _<_}
-use lib.Dec.{leb}
+use Prim.Native.Nat.{ℕ, zero, suc, _+_, _*_, _/_, _%_, _^_, _≤_, _<_}
 use lib.Ieee.{Format, binary32, binary64, hid, top, ofBits}
 use lib.Ieee.Nearest.{closest}
 use Rattle.number.specs.Format.{narrowOf}
 use Rattle.number.specs.Root.{rootOf, restOf}
 use Rattle.number.specs.declared.Scaled.{Scaled}
-use Rattle.number.specs.declared.root.PartialRoot.{PartialRoot}
-use Rattle.number.specs.declared.root.WholeRoot.{WholeRoot}
 
 -- ---- the magnitude that a bit pattern stands for (IEEE 754, clause 3.4)
 
@@ -36,19 +33,7 @@ pub record Narrowed (b r : ℕ) : Type 0 where
   pub most : r ≤ 0x7f80_0000
   pub rounded : (s : Bool) → ofBits binary32 (cond s (top binary32) 0 + r) ≡ narrowOf (ofBits binary64 (cond s (top binary64) 0 + b))
 
--- ---- the search for a root
-
--- One bit b of a search for a root, with r the bits found: by (r + b)² = r² + (2 * r + b) * b it fits if what is left, in units of b, reaches 2 * r + b.
--- With u = 4 * b, trial and left are twice these two, so that the next trial, for b / 2, is whole: 4 * r + b, or 4 * (r + b) + b.
-abbrev pub triedOf : PartialRoot → ℕ → PartialRoot
-triedOf s u =
-    cond (leb (s .trial) (s .left)) (record { trial = s .trial - u / 4 + u; left = s .left - s .trial }) (record { trial = s .trial - u / 4; left = s .left })
-
+-- ---- the root
 -- the 53 digits of the rounded root of m * 2 ^ (w - 52) smallest values, by a root of 54 digits and what is left
 abbrev pub rootDigits : ℕ → ℕ → ℕ
 rootDigits m w = let n = m * 2 ^ (1 + w % 2) * 2 ^ 53 in closest (2 * rootOf n + restOf (rootOf n) n) 4
-
--- what a search for the whole root of n finds
-pub record Found (n : ℕ) (r : WholeRoot) : Type 0 where
-  pub root : r .root ≡ rootOf n
-  pub rest : r .rest ≡ restOf (rootOf n) n

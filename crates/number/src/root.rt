@@ -1,32 +1,46 @@
 // The square root, by the bits of a number.
 ghost use mathlib.Core.Path.{_≡_};
+ghost use mathlib.Core.Bool.{cond};
 ghost use Prim.Native.Nat.{_+_, _*_, _<_, _^_, _≤_};
 ghost use lib.Ieee.{binary64, ofBits};
 ghost use Rattle.number.specs.Root.{roundRoot, sqrtOf};
-ghost use Rattle.number.specs.Steps.{Found, rootDigits, triedOf, unitsOf};
+ghost use Rattle.number.specs.Search.{Found, triedOf};
+ghost use Rattle.number.specs.Steps.{rootDigits, unitsOf};
 use crate::nearest;
 use crate::normalised;
 
-// A search for a root. With r the bits found and b the bit to try, trial is 2 * (2 * r + b), and left is twice what is left of the number, in units of b.
+// One of two numbers. It is compiled to a choice; a branch would be mispredicted every other time.
+fn either(first: bool, a: u64, b: u64) -> u64
+    ensures { λ r. ⌜ r ≡ cond first a b ⌝ }
+{
+    if first {
+        return a;
+    }
+    b
+}
+
+// A search for a root between two bits. With r the root so far and b the bit just tried, trial is 4 * r + b, and left is four times the remainder.
 struct PartialRoot {
     trial: u64,
     left: u64,
 }
 
 impl PartialRoot {
-    // One bit more, a quarter of step: it is kept if what is left reaches the trial. A mask chooses, so that no branch is mispredicted.
-    fn tried(self, step: u64) -> PartialRoot
-        requires { ⌜ (step ≤ 2 * self .trial) × (self .trial + step < 2 ^ 63) × (self .left < 2 ^ 63) ⌝ }
-        ensures { λ r. ⌜ r ≡ triedOf self step ⌝ }
+    // The next bit, half of the one just tried: it is kept if what is left reaches the trial.
+    fn tried(self, bit: u64) -> PartialRoot
+        requires { ⌜ (bit ≤ 2 * self .trial) × (self .trial + 2 * bit < 2 ^ 63) × (self .left < 2 ^ 63) ⌝ }
+        ensures { λ r. ⌜ r ≡ triedOf self bit ⌝ }
     {
         let trial = self.trial;
         let left = self.left;
-        let refused = trial - (step >> 2);
+        // both next trials first, so that the choices follow the difference at once
+        let refused = trial - (bit >> 1);
+        let kept = refused + 2 * bit;
         let difference = std::num::wrapping_sub_u64(left, trial);
-        let mask = std::num::wrapping_sub_u64(0, difference >> 63);
+        let fits = difference < 0x8000_0000_0000_0000;
         PartialRoot {
-            trial: refused + (step - (step & mask)),
-            left: std::num::wrapping_add_u64(difference, trial & mask),
+            trial: either(fits, kept, refused),
+            left: 2 * either(fits, difference, left),
         }
     }
 }
@@ -37,25 +51,25 @@ struct WholeRoot {
     rest: u64,
 }
 
-// The root of number * 2 ^ 53, whose first bit is 2 ^ 53, and then a bit at a time: what is left of that number is left * step / 8.
+// The root of number * 2 ^ 53, whose first bit is 2 ^ 53, and then a bit at a time. Where nothing is left the bits to come are zeros.
 fn search(number: u64) -> WholeRoot
     requires { ⌜ (2 ^ 53 ≤ number) × (number < 2 ^ 55) ⌝ }
     ensures { λ r. ⌜ Found (number * 2 ^ 53) r ⌝ }
 {
-    let mut step: u64 = 0x0040_0000_0000_0000;
+    let mut bit: u64 = 0x0020_0000_0000_0000;
     let mut trial: u64 = 0x00a0_0000_0000_0000;
     let mut left: u64 = 4 * (number - 0x0020_0000_0000_0000);
-    while 2 < step {
+    while 1 < bit {
         if left == 0 {
             return WholeRoot {
-                root: (trial - (step >> 1)) >> 2,
+                root: (trial - bit) >> 2,
                 rest: 0,
             };
         }
-        let next = PartialRoot { trial, left }.tried(step);
-        step = step >> 1;
+        let next = PartialRoot { trial, left }.tried(bit);
+        bit = bit >> 1;
         trial = next.trial;
-        left = 2 * next.left;
+        left = next.left;
     }
     let root = trial >> 2;
     if left == 0 {

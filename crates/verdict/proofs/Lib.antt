@@ -9,6 +9,8 @@ pub mod Cuts
 pub mod PlaneCount
 pub mod PlanesHeld
 pub mod PlanesLeft
+pub mod Signs
+pub mod Origin
 pub mod Masks
 pub mod Passes
 pub mod Marked

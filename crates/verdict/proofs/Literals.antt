@@ -6,6 +6,7 @@ use lib.Ieee.{binary64, ofBits, round, units, odd, size, span, climb}
 use Rattle.matrix.specs.Constants.{rounded}
 use Rattle.verdict.specs.BBox.{boxEpsilon}
 use Rattle.verdict.specs.Projection.{tolerance}
+use Rattle.verdict.specs.Origin.{far}
 
 pub tolerance-bits : ofBits binary64 0x3eb0_c6f7_a0b5_ed8d ≡ tolerance
 unfolding ofBits round units odd size span climb trailingZeros
@@ -18,3 +19,7 @@ millionth-bits = refl
 pub box-epsilon-bits : ofBits binary64 0x3d3c_25c2_6849_7682 ≡ boxEpsilon
 unfolding ofBits round units odd size span climb trailingZeros
 box-epsilon-bits = refl
+
+pub far-bits : ofBits binary64 0x43ab_c16d_674e_c800 ≡ far
+unfolding ofBits round units odd size span climb trailingZeros
+far-bits = refl

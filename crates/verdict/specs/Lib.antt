@@ -1,5 +1,6 @@
 -- What the contracts of this crate cite, and what a reader must believe.
 pub mod Plane
+pub mod Origin
 pub mod Ray
 pub mod Projection
 pub mod Recovery

@@ -6,6 +6,7 @@ ghost use Rattle.verdict.specs.Volume.{planesOf};
 ghost use Rattle.verdict.specs.Frustum.{pointOf, crossing, startCut, endCut, spanLeft, segmentOf, intoSpaceOf, boxOf};
 use crate::bbox::BBox3d;
 use crate::plane::Plane;
+use crate::plane::holds_origin;
 use crate::volume::FEWEST_PLANES;
 use crate::volume::all_planes;
 use crate::volume::plane_at;
@@ -160,11 +161,10 @@ pub(crate) fn intersects_bbox(volume: &[f64], count: u32, b: BBox3d) -> bool
         return false;
     }
     let into = into_space(b);
+    let about_origin = holds_origin(range);
     let mut i: u32 = 0;
     while i < count {
-        if !plane_at(volume, i)
-            .under_inverse_transpose(into)
-            .reaches_positive_side(range) {
+        if !plane_at(volume, i).reaches_under(into, range, about_origin) {
             return false;
         }
         i += 1;

@@ -1,12 +1,15 @@
 // A plane that divides space in two.
 ghost use mathlib.Core.Path.{_≡_};
+ghost use mathlib.Core.Bool.{_&&_};
 ghost use Rattle.verdict.specs.Plane.{numbers, planeOf, facing, fromPoints, offset, fromEquation, equation, distanceTo, onPositiveSide, endToward, reachesPositiveSide, underInverseTranspose, transformed};
+ghost use Rattle.verdict.specs.Origin.{holdsZero, holdsOrigin, originAhead};
 ghost use Rattle.number.specs.Slice.{stored};
 use matrix::inverse::Inverted;
 use matrix::matrix::Mat4d;
 use matrix::range::Range3d;
 use matrix::vec::Vec3d;
 use matrix::vec::Vec4d;
+use number::order::is_within;
 use number::slice;
 use number::slice::at;
 
@@ -40,6 +43,47 @@ fn end_toward(n: f64, min: f64, max: f64) -> f64
         return max;
     }
     min
+}
+
+// A bound on the numbers with which the origin may settle a test. A normal of such numbers stays finite where it is made unit length.
+const FAR: f64 = 1e18;
+
+// Whether 0 is in a span, of which the greatest number is not far.
+fn holds_zero(min: f64, max: f64) -> bool
+    ensures { λ r. ⌜ r ≡ holdsZero min max ⌝ }
+{
+    (min <= 0.0) & (0.0 <= max) & is_within(max, FAR)
+}
+
+// Whether a range holds the origin of its space.
+pub(crate) fn holds_origin(range: Range3d) -> bool
+    ensures { λ r. ⌜ r ≡ holdsOrigin range ⌝ }
+{
+    holds_zero(range.min.x, range.max.x)
+        & holds_zero(range.min.y, range.max.y)
+        & holds_zero(range.min.z, range.max.z)
+}
+
+// Whether the plane of an equation has the origin on its positive side.
+fn origin_ahead(equation: Vec4d) -> bool
+    ensures { λ r. ⌜ r ≡ originAhead equation ⌝ }
+{
+    (0.0 <= equation.w)
+        & is_within(equation.w, FAR)
+        & is_within(equation.x, FAR)
+        & is_within(equation.y, FAR)
+        & is_within(equation.z, FAR)
+}
+
+// Whether the origin settles the test of a plane: a range that holds it has some of it on the plane's positive side. Where the range does
+// not, the equation is not looked at.
+fn origin_settles(about_origin: bool, equation: Vec4d) -> bool
+    ensures { λ r. ⌜ r ≡ («about_origin» && originAhead equation) ⌝ }
+{
+    if about_origin {
+        return origin_ahead(equation);
+    }
+    false
 }
 
 impl Plane {
@@ -124,6 +168,24 @@ impl Plane {
         ensures { λ r. ⌜ r ≡ underInverseTranspose «inverse_transpose» self ⌝ }
     {
         Plane::from_equation(inverse_transpose.transform_homogeneous(self.equation()))
+    }
+
+    // Whether any of a range is on the plane's positive side under such a transform. The length of the normal is not needed where the
+    // origin settles it.
+    pub(crate) fn reaches_under(
+        self,
+        inverse_transpose: Mat4d,
+        range: Range3d,
+        about_origin: bool,
+    ) -> bool
+        requires { ⌜ «about_origin» ≡ holdsOrigin range ⌝ }
+        ensures { λ r. ⌜ r ≡ reachesPositiveSide (underInverseTranspose «inverse_transpose» self) range ⌝ }
+    {
+        let equation = inverse_transpose.transform_homogeneous(self.equation());
+        if origin_settles(about_origin, equation) {
+            return true;
+        }
+        Plane::from_equation(equation).reaches_positive_side(range)
     }
 
     pub fn transformed(self, matrix: Mat4d) -> Transformed

@@ -13,6 +13,7 @@ use Rattle.number.specs.Root.{rootOf, restOf}
 use Rattle.number.proofs.Rounding.{nearest-shift}
 use Rattle.number.proofs.RootBits.{shifted, shifted-ge, shifted-lt, halved, small}
 use Rattle.number.proofs.RootRounding.{rest-none, rest-some}
+use Rattle.number.proofs.Search.{found-root, found-rest}
 use Rattle.number.proofs.Tests.{both-hold}
 use Rattle.number.proofs.WholeRoot.{root-unique}
 use Rattle.number.proofs.root.root_digits.Statement.{statement}
@@ -118,7 +119,7 @@ found : (c : tie.After-search) → let a = c .before .before .args in
 found c =
     let a = c .before .before .args in
     let p = c .before .before .pre in
-    halved (a .significand) (a .scale) (p .0) (p .1) (c .search .result .root) (c .search .result .rest) (c .search .ensures .root, c .search .ensures .rest)
+    halved (a .significand) (a .scale) (p .0) (p .1) (c .search .result .root) (c .search .result .rest) (found-root _ _ (c .search .ensures), found-rest _ _ (c .search .ensures))
 
 found-lt : (c : tie.After-search) → 2 * c .search .result .root + c .search .result .rest < 2 ^ 55
 found-lt c =

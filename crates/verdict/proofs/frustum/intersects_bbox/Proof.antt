@@ -33,14 +33,14 @@ module _ (ps : List Plane) (b : BBox3d) (z : Bool) (q : z ≡ isEmpty (b .range)
 left-all : (s : List Float) (n : ℕ) (m : Mat4d) (r : Range3d) → every (test m r) (planesLeft s n 0) ≡ every (test m r) (planesOf s n)
 left-all s n m r = ap (λ (ps : List Plane). every (test m r) ps) (all s n)
 
-reached : (m : Mat4d) (r : Range3d) (z : Bool) (p p' q : Plane) → z ≡ reachesPositiveSide p' r → p' ≡ underInverseTranspose m p → p ≡ q → z ≡ test m r q
-reached m r z p p' q e f g = e ∙ ap (λ (t : Plane). reachesPositiveSide t r) f ∙ ap (test m r) g
+reached : (m : Mat4d) (r : Range3d) (z : Bool) (p q : Plane) → z ≡ test m r p → p ≡ q → z ≡ test m r q
+reached m r z p q e g = e ∙ ap (test m r) g
 
 abbrev Inv-loop : tie.InvT-loop
-Inv-loop volume count range into i₀ i = (i ≤ count) × (every (test into range) (planesLeft volume count i) ≡ every (test into range) (planesOf volume count))
+Inv-loop volume count range into about-origin i₀ i = (i ≤ count) × (every (test into range) (planesLeft volume count i) ≡ every (test into range) (planesOf volume count))
 
 abbrev μ-loop : tie.MeasureT-loop
-μ-loop volume count range into i₀ i = count - i
+μ-loop volume count range into about-origin i₀ i = count - i
 
 returns : tie.Need-returns Inv-loop μ-loop
 returns c = no-range _ _ _ (c .before .is-empty .ensures) (c .if1 .taken)
@@ -48,16 +48,18 @@ returns c = no-range _ _ _ (c .before .is-empty .ensures) (c .if1 .taken)
 loop-holds : tie.Need-loop-holds Inv-loop μ-loop
 loop-holds c = (omega arith, left-all _ _ _ _)
 
+about : tie.Need-reaches-under-requires Inv-loop μ-loop
+about c κs = c .before .before .before .holds-origin .ensures
+
 returns-2 : tie.Need-returns-2 Inv-loop μ-loop
 returns-2 c =
     let to = c .before in
-    let under = to .before in
-    let at = under .before in
+    let at = to .before in
     let at-loop = at .before .before in
     let l = at-loop .loop in
-    let into = at-loop .before in
+    let into = at-loop .before .before in
     let some = into .before in
-    fails (test _ _) _ _ (l .i) _ (omega arith) (reached _ _ _ _ _ _ (to .reaches-positive-side .ensures) (under .under-inverse-transpose .ensures) (at .plane-at .ensures)) (c .if2 .taken)
+    fails (test _ _) _ _ (l .i) _ (omega arith) (reached _ _ _ _ _ (to .reaches-under .ensures) (at .plane-at .ensures)) (c .if2 .taken)
     ∙ l .inv .1 ∙ a-range _ _ _ (some .before .is-empty .ensures) _ (some .if1 .left) (into .into-space .ensures)
 
 add-i : tie.Need-add-i Inv-loop μ-loop
@@ -69,22 +71,21 @@ loop-less c = search needs
 loop-again : tie.Need-loop-again Inv-loop μ-loop
 loop-again c =
     let to = c .before in
-    let under = to .before in
-    let at = under .before in
+    let at = to .before in
     let l = at .before .before .loop in (
       omega arith,
-      holds (test _ _) _ _ (l .i) _ (omega arith) (reached _ _ _ _ _ _ (to .reaches-positive-side .ensures) (under .under-inverse-transpose .ensures) (at .plane-at .ensures)) (c .if2 .left) ∙ l .inv .1,
+      holds (test _ _) _ _ (l .i) _ (omega arith) (reached _ _ _ _ _ (to .reaches-under .ensures) (at .plane-at .ensures)) (c .if2 .left) ∙ l .inv .1,
     )
 
 returns-3 : tie.Need-returns-3 Inv-loop μ-loop
 returns-3 c =
     let at-loop = c .before in
     let l = at-loop .loop in
-    let into = at-loop .before in
+    let into = at-loop .before .before in
     let some = into .before in
     all-hold (test _ _) _ _ (l .i) (omega arith) ∙ l .inv .1 ∙ a-range _ _ _ (some .before .is-empty .ensures) _ (some .if1 .left) (into .into-space .ensures)
 
 pub intersects-bbox-spec : {M : Type 1} → statement M
 intersects-bbox-spec =
     tie.close
-    (tie.spec Inv-loop μ-loop (λ c κs. tt) returns (λ c κs. tt) loop-holds (λ c κs. omega arith) (λ c κs. tt) (λ c κs. tt) returns-2 add-i loop-less loop-again returns-3)
+    (tie.spec Inv-loop μ-loop (λ c κs. tt) returns (λ c κs. tt) (λ c κs. tt) loop-holds (λ c κs. omega arith) about returns-2 add-i loop-less loop-again returns-3)
