@@ -11,6 +11,8 @@ pub mod PlanesHeld
 pub mod PlanesLeft
 pub mod Signs
 pub mod Origin
+pub mod Monotone
+pub mod Bounds
 pub mod Masks
 pub mod Passes
 pub mod Marked

@@ -30,19 +30,19 @@ use Rattle.verdict.proofs.Signs.{side, round-side, add-side, mul-side, 
 
 -- ---- numbers that are written out
 
-zero-is : positiveZero ≡ zeroOf false
+pub zero-is : positiveZero ≡ zeroOf false
 unfolding round units odd size span climb trailingZeros
 zero-is = refl
 
-one-is : one ≡ fin false 1 (pos 0)
+pub one-is : one ≡ fin false 1 (pos 0)
 unfolding round units odd size span climb trailingZeros
 one-is = refl
 
-far-is : far ≡ fin false 3814697265625 (pos 18)
+pub far-is : far ≡ fin false 3814697265625 (pos 18)
 unfolding round units odd size span climb trailingZeros
 far-is = refl
 
-least-is : minLength ≡ fin false 7737125245533627 (negsuc 85)
+pub least-is : minLength ≡ fin false 7737125245533627 (negsuc 85)
 unfolding round units odd size span climb trailingZeros
 least-is = refl
 
@@ -101,7 +101,7 @@ under-far nan t = absurd t
 under-far (inf s) t = absurd t
 under-far (fin s m e) t = at-most (m * up e) (down e) (ltb→lt (m * up e * 1) (3814697265625 * 2 ^ 18 * down e) t)
 
-within-far : (x : Float) → T (lt (absOf x) far) → Within (10 ^ 18) x
+pub within-far : (x : Float) → T (lt (absOf x) far) → Within (10 ^ 18) x
 within-far x t = under-far x (subst (λ (z : Float). T (lt (absOf x) z)) far-is t)
 
 -- ---- the factor that makes a normal unit length: 1 divided by 1e-10 or more

@@ -1,6 +1,7 @@
 -- What the contracts of this crate cite, and what a reader must believe.
 pub mod Plane
 pub mod Origin
+pub mod Bounds
 pub mod Ray
 pub mod Projection
 pub mod Recovery

@@ -1,4 +1,4 @@
--- `Plane::reaches_under` meets its contract: by the law of the origin where that settles it, else by the plane that it makes. Assumes nothing.
+-- `Plane::reaches_under` meets its contract: by the law of the origin where that settles it, else by that of `reaches`. Assumes nothing.
 use mathlib.Core.Path.{_≡_, sym, ap, _∙_, subst}
 use mathlib.Core.Bool.{Bool, true, _&&_}
 use lib.Dec.{T}
@@ -23,8 +23,8 @@ module _ (m : Mat4d) (p : Plane) (r : Range3d) (e f : Vec4d) (h : f ≡ homogene
       let b = subst T (sym t ∙ j) tt in
       sym (origin-reaches f r (and-r o (originAhead f) b) (subst T i (and-l o (originAhead f) b))) ∙ ap (λ (v : Vec4d). reachesPositiveSide (fromEquation v) r) carried
 
-  made : (z : Bool) (q : Plane) → z ≡ reachesPositiveSide q r → q ≡ fromEquation f → z ≡ reachesPositiveSide (underInverseTranspose m p) r
-  made z q i j = i ∙ ap (λ (s : Plane). reachesPositiveSide s r) (j ∙ ap fromEquation carried)
+  made : (z : Bool) → z ≡ reachesPositiveSide (fromEquation f) r → z ≡ reachesPositiveSide (underInverseTranspose m p) r
+  made z i = i ∙ ap (λ (v : Vec4d). reachesPositiveSide (fromEquation v) r) carried
 
 returns : tie.Need-returns
 returns c =
@@ -35,9 +35,8 @@ returns c =
 
 returns-2 : tie.Need-returns-2
 returns-2 c =
-    let plane = c .before in
-    let moved = plane .before .before .before in
-    made _ _ _ _ _ (moved .transform-homogeneous .ensures) (moved .before .equation .ensures) _ _ (c .reaches-positive-side .ensures) (plane .from-equation .ensures)
+    let moved = c .before .before .before in
+    made _ _ _ _ _ (moved .transform-homogeneous .ensures) (moved .before .equation .ensures) _ (c .reaches .ensures)
 
 pub reaches-under-spec : {M : Type 1} → statement M
-reaches-under-spec = tie.close (tie.spec (λ c κs. tt) (λ c κs. tt) (λ c κs. tt) returns (λ c κs. tt) (λ c κs. tt) returns-2)
+reaches-under-spec = tie.close (tie.spec (λ c κs. tt) (λ c κs. tt) (λ c κs. tt) returns (λ c κs. tt) returns-2)
