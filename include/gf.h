@@ -29,7 +29,7 @@
  *   9  a farm file is too short, or its directory does not say where its sections lie
  *   10 a section of a farm file is not as long as its record
  *   11 a group of boxes is empty, or has more numbers than 256 boxes
- *   12 a volume's count of planes is not whole, or outside 6 to 32
+ *   12 a volume's count of planes is not whole, or outside GF_FEWEST_PLANES to GF_MOST_PLANES
  *
  * With status 0 all of `out` is written. Every refusal leaves `out` unchanged. Slices lent for reading are never written.
  * Where more than one refusal applies, the one that "Refuses" lists first is returned. A result of several numbers goes into a
@@ -53,10 +53,10 @@
  *   camera 24             the matrix that carries camera space into the world, kind (as a projection), focal length, horizontal
  *                         aperture, vertical aperture, horizontal offset, vertical offset, near, far
  *   box 23                range, the matrix that places it, zero-area flag (0 or 1)
- *   volume 25 + 4n        how many planes it has, n, a whole number from 6 to 32; n planes that face into the view, in front
- *                         the original six, left, right, bottom, top, near, far, and behind them those of sheds and screens that
- *                         cut it; then four rays along the edges of the view, from its near corners left bottom, left top,
- *                         right top, right bottom. That is 49 numbers for six planes, 153 for 32
+ *   volume 25 + 4n        how many planes it has, n, a whole number from GF_FEWEST_PLANES to GF_MOST_PLANES; n planes that
+ *                         face into the view, in front the original six, left, right, bottom, top, near, far, and behind them
+ *                         those of sheds and screens that cut it; then four rays along the edges of the view, from its near
+ *                         corners left bottom, left top, right top, right bottom. That is 49 numbers for six planes
  *
  * Below, "In" gives the length of each slice lent for reading, "Out" what is written with status 0, and "Refuses" the
  * refusals that the function can give, in their order.
@@ -66,6 +66,10 @@
 
 #include <stddef.h>
 #include <stdint.h>
+
+/* The limits of a volume's count of planes. */
+#define GF_FEWEST_PLANES 6
+#define GF_MOST_PLANES 32
 
 #ifdef __cplusplus
 extern "C" {
@@ -223,8 +227,9 @@ uint32_t gf_projection_from_matrix(const double *m, size_t m_len, double *out, s
  * matrices fix its ratio to the apertures alone; focal length, apertures and offsets are in tenths of a world unit. The seven
  * numbers behind the kind are values of binary32: computed in double, narrowed once and widened again. 4: the view has no
  * inverse (as gf_inverse). 6: the projection is none (as gf_projection_from_matrix). 8: one of the 24 numbers is not finite,
- * because it overflows binary32, because the view's determinant is infinite, or because the focal length is a NaN or an
- * infinity. A focal length of 0 or below, and near above far, are accepted. With status 0 all 24 numbers are finite.
+ * because it overflows binary32, because the view's determinant is infinite, because the view's inverse overflows though the
+ * determinant is finite, or because the focal length is a NaN or an infinity. A focal length of 0 or below, and near above far,
+ * are accepted. With status 0 all 24 numbers are finite.
  * In: view 16, projection 16. Out: 24 numbers. Refuses: 1, 2, 4, 6, 8. */
 uint32_t gf_camera_set_from_view_and_projection(const double *view, size_t view_len, const double *projection, size_t projection_len, float focal_length, double *out, size_t out_len);
 
@@ -234,10 +239,11 @@ uint32_t gf_camera_set_from_view_and_projection(const double *view, size_t view_
  * out has 63 slots: box i of the file has slot i - 1, which is 1 if the box is in view (as gf_intersects_bbox) and 0 if not; a
  * slot without a box holds 4294967295. count is the number of boxes. 1: the file has more than 65536 bytes. 2: out has not 63
  * slots. 9: the file has fewer than 4 bytes, its count of sections is not from 2 to 64, the directory does not fit, or a section
- * starts before the end of the directory or of the section listed before it, or passes the end of the file. 10: a section has not
- * 8 bytes for each number of its record. 3: the flag of a box is neither 0, of either sign, nor 1. Each is looked for in the whole
- * file before the next. The bytes need no alignment.
- * In: the file, of any length. Out: 63 slots, and the count. Refuses: 1, 2, 9, 10, 3. */
+ * starts before the end of the directory or of the section listed before it, or passes the end of the file. 10: the volume's section
+ * has fewer than 392 bytes. 12: the volume's count of planes. 10: a section has not 8 bytes for each number of its record, the
+ * volume's by its count. 3: the flag of a box is neither 0, of either sign, nor 1. Each is looked for in the whole file before the
+ * next. The bytes need no alignment.
+ * In: the file, of any length. Out: 63 slots, and the count. Refuses: 1, 2, 9, 10, 12, 10, 3. */
 uint32_t gf_farm_file(const uint8_t *file, size_t file_len, uint32_t *out, size_t out_len, uint32_t *count);
 
 /* ---- boxes. 3, in each: the flag of a box is neither 0, of either sign, nor 1 */
@@ -272,9 +278,10 @@ uint32_t gf_bbox_aligned_range(const double *b, size_t b_len, double *out, size_
  * In: b 23. Out: 3 numbers. Refuses: 1, 2, 3. */
 uint32_t gf_bbox_centroid(const double *b, size_t b_len, double *out, size_t out_len);
 
-/* ---- verdicts: the first four by the planes of a volume, where touching counts. docs/VERDICTS.md tells what they mean.
+/* ---- verdicts: the first four by the planes of a volume, where touching counts, of boxes only as far as rounding lets it
+ * (gf_intersects_bbox). docs/VERDICTS.md tells what they mean.
  * What these four refuse, in order: 1 for a volume below 49 numbers or another input of the wrong length; 12 for a count that is
- * not whole or outside 6 to 32, a NaN among them; 1 for a volume of another length than its count's; then 3, of a box */
+ * not whole or outside its limits, a NaN among them; 1 for a volume of another length than its count's; then 3, of a box */
 
 /* Whether the point is on the positive side of every plane. The rays are not read.
  * In: volume, p 3. Out: yes or no. Refuses: 1, 12, 1. */
@@ -286,12 +293,15 @@ uint32_t gf_intersects_segment(const double *volume, size_t volume_len, const do
 
 /* Whether any of the triangle is in view, by the original six planes alone: a corner, some of a side, or a place where a ray of
  * the volume meets it. Only the first ray is tried where all corners are on the positive side of the near and of the far plane.
+ * It is exact neither way: a ray may meet the triangle behind the far plane, and may miss one that cuts through the view.
  * In: volume, p0 3, p1 3, p2 3. Out: yes or no. Refuses: 1, 12, 1. */
 uint32_t gf_intersects_triangle(const double *volume, size_t volume_len, const double *p0, size_t p0_len, const double *p1, size_t p1_len, const double *p2, size_t p2_len, uint32_t *out);
 
 /* Whether the placed box is wholly behind no plane; a box near an edge or a corner of the view may count though it is just
- * outside. A box with an empty range is not in view. One whose matrix has no inverse, its determinant's size not above 1e-13,
- * is taken as if its matrix were the identity. The rays are not read. 3: the flag is neither 0, of either sign, nor 1.
+ * outside. Each normal is made unit length in the box's space, which rounds, so that a box which just touches may get a no: not
+ * one on the farm grid by planes whose normal is a single 1 or -1. A box with an empty range is not in view. One whose matrix has
+ * no inverse, its determinant's size not above 1e-13, is taken as if its matrix were the identity. The rays are not read.
+ * 3: the flag is neither 0, of either sign, nor 1.
  * In: volume, bbox 23. Out: yes or no. Refuses: 1, 12, 1, 3. */
 uint32_t gf_intersects_bbox(const double *volume, size_t volume_len, const double *bbox, size_t bbox_len, uint32_t *out);
 

@@ -37,6 +37,8 @@ pub struct Call<I> {
     sets: Vec<Set<I>>,
     timed_against: Option<Box<dyn Side>>,
     recorded: Option<fn() -> Vec<Words>>,
+    #[cfg(test)]
+    mended: Vec<I>,
 }
 
 impl<I: Input> Call<I> {
@@ -44,12 +46,32 @@ impl<I: Input> Call<I> {
     pub fn new(of: Exported) -> Self {
         let agrees = if of.gives == Shape::Verdict { judge::equal } else { judge::signed };
         let drawn = |_, _: &mut Rng| unreachable!("no inputs are given");
-        Call { of, agrees, fixed: vec![], drawn, sets: vec![], timed_against: None, recorded: None }
+        Call {
+            of,
+            agrees,
+            fixed: vec![],
+            drawn,
+            sets: vec![],
+            timed_against: None,
+            recorded: None,
+            #[cfg(test)]
+            mended: vec![],
+        }
     }
 
     /// Inputs that are always tried, and recorded.
     pub fn fixed(mut self, fixed: Vec<I>) -> Self {
         self.fixed.extend(fixed);
+        self
+    }
+
+    /// Inputs of the right lengths with every fault, then with one fewer after
+    /// another, and last with none, where a call has more than one refusal
+    /// behind the lengths. They are always tried too.
+    pub fn mended(mut self, inputs: Vec<I>) -> Self {
+        #[cfg(test)]
+        self.mended.extend(&inputs);
+        self.fixed.extend(inputs);
         self
     }
 
@@ -173,6 +195,30 @@ impl<I: Input> Call<I> {
         (before, made)
     }
 }
+
+#[cfg(test)]
+impl<I: Input> Call<I> {
+    /// What the judge answers, with these lengths.
+    fn judged(&self, input: I, len: [usize; INPUTS + 1]) -> u32 {
+        self.lay(input, len).put_to(self.of.rust.as_ref())
+    }
+
+    /// Inputs as of `mended`. Where a call has one refusal behind the lengths,
+    /// or none, any that meets it and any that is accepted.
+    fn mended_inputs(&self) -> Vec<I> {
+        if !self.mended.is_empty() {
+            return self.mended.clone();
+        }
+        let inputs = || (0..TRIED).map(|case| self.input(case, &mut Rng::at(1, case)));
+        let is_refused = |&input: &I| self.judged(input, self.right_lengths(&input)) != 0;
+        let refused = inputs().find(is_refused);
+        refused.into_iter().chain(inputs().find(|input| !is_refused(input))).collect()
+    }
+}
+
+/// How many cases show which refusals a call has.
+#[cfg(test)]
+const TRIED: u64 = 20_000;
 
 /// The numbers of a call: its slices, and beside them others that nobody may
 /// write.
@@ -332,5 +378,33 @@ impl<I: Input> Op for Call<I> {
 
     fn sides(&self) -> Option<[Option<&dyn Side>; 2]> {
         Some([Some(self.of.rust.as_ref()), self.of.ours.as_deref()])
+    }
+
+    #[cfg(test)]
+    fn refusals(&self) -> Vec<u32> {
+        let inputs = self.mended_inputs();
+        let faulty = inputs[0];
+        // Slices of no length: each input, with the result; then the result.
+        let mut short = self.right_lengths(&faulty);
+        let mut answers = vec![];
+        if matches!(self.of.gives, Shape::Slice(_)) {
+            short[INPUTS] = 0;
+        }
+        for (i, _) in self.of.takes.iter().enumerate().filter(|(_, shape)| matches!(shape, Shape::Slice(_))) {
+            let mut len = short;
+            len[i] = 0;
+            answers.push(self.judged(faulty, len));
+        }
+        answers.push(self.judged(faulty, short));
+        answers.extend(inputs.into_iter().map(|input| self.judged(input, self.right_lengths(&input))));
+        answers.dedup();
+        assert_eq!(answers.pop(), Some(0), "{}: the last has no fault", self.name());
+        for case in 0..TRIED {
+            let mut rng = Rng::at(1, case);
+            let input = self.input(case, &mut rng);
+            let status = self.judged(input, self.lengths(case, &input, &mut rng));
+            assert!(status == 0 || answers.contains(&status), "{}: {status} is not met", self.name());
+        }
+        answers
     }
 }

@@ -2,6 +2,7 @@
 
 use crate::exported::of_archive;
 use crate::inputs::{self, FarmFile, Matrix, Rng, mixed};
+use crate::judge::{FEWEST_PLANES, MOST_PLANES};
 use crate::op::{Timed, Timing};
 use crate::reader::{self, BOXES, NONE};
 use crate::trial::Trial;
@@ -57,6 +58,57 @@ impl FarmFiles {
             _ => BOXES,
         }
     }
+}
+
+#[cfg(test)]
+impl FarmFiles {
+    /// The judge's refusals in their order: what it answers to a file with
+    /// every fault, while one fault after another is mended.
+    pub fn refusals(&self) -> Vec<u32> {
+        let mut desk = Desk::default();
+        let mut judged = |mended: usize| {
+            desk.slots = faulty(mended, &mut desk.file);
+            desk.lay(0);
+            desk.put_to(&self.judge).status
+        };
+        let mut answers: Vec<u32> = (0..=FAULTS).map(&mut judged).collect();
+        assert_eq!(answers.pop(), Some(0), "the last has no fault");
+        let notable = inputs::notable_files().into_iter().map(|file| file.refusal);
+        assert!(notable.into_iter().all(|status| status == 0 || answers.contains(&status)));
+        answers
+    }
+}
+
+/// How many faults a file can have: its size, the slots lent with it, where
+/// its sections lie, a volume too short for any, its count, lengths, flags.
+#[cfg(test)]
+const FAULTS: usize = 7;
+
+/// A file with all of these but the first, and how many slots are lent.
+#[cfg(test)]
+fn faulty(mended: usize, file: &mut FarmFile) -> usize {
+    use crate::inputs::{CUBE, IDENTITY, Volume, box_of, bytes_of};
+    let has = |fault: usize| fault >= mended;
+    let rng = &mut Rng::at(1, 0);
+    let block = box_of([0.0, 0.0, 0.0, 1.0, 1.0, 1.0], IDENTITY, if has(6) { 2.0 } else { 0.0 });
+    let volume = Volume::of(CUBE).counted(if has(4) { f64::NAN } else { 6.0 });
+    file.begin(3);
+    file.put(0, &bytes_of(volume.numbers()));
+    if has(5) {
+        file.cut(rng, 0, if has(3) { reader::LEAST_VOLUME - 8 } else { reader::LEAST_VOLUME + 8 });
+    }
+    file.put(1, &bytes_of(&block));
+    if has(5) {
+        file.cut(rng, 1, reader::BOX - 1);
+    }
+    file.put(2, &bytes_of(&block));
+    if has(2) {
+        file.set_offset(2, file.offset(2) - 1);
+    }
+    if has(0) {
+        file.fill_to(rng, reader::LARGEST + 1);
+    }
+    if has(1) { BOXES - 1 } else { BOXES }
 }
 
 /// Files that are always tried.
@@ -218,9 +270,9 @@ impl Timed for FarmFiles {
             Timing { set, ours: pass(ours), rust: pass(&self.judge) }
         };
         vec![
-            timing("63 rigid boxes", inputs::FEWEST, inputs::rigid_placement),
-            timing("63 scaled boxes", inputs::FEWEST, inputs::placement),
-            timing("32 planes, 63 rigid boxes", inputs::MOST, inputs::rigid_placement),
+            timing("63 rigid boxes", FEWEST_PLANES, inputs::rigid_placement),
+            timing("63 scaled boxes", FEWEST_PLANES, inputs::placement),
+            timing("the most planes, 63 rigid boxes", MOST_PLANES, inputs::rigid_placement),
         ]
     }
 }

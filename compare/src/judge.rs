@@ -24,11 +24,14 @@ pub const NOT_FINITE: u32 = 8;
 pub const NO_FARM_FILE: u32 = 9;
 /// A section of a farm file is not as long as its record.
 pub const WRONG_SECTION: u32 = 10;
-/// Paper 02's: an empty group, or one of more numbers than 256 boxes have.
+/// An empty group, or one of more numbers than 256 boxes have.
 pub const GROUP_SIZE: u32 = 11;
-
-/// A count of planes that is not whole, or not from 6 to 32.
+/// A count of planes that is not whole, or outside its limits.
 pub const NO_COUNT: u32 = 12;
+
+/// How many planes a volume has at least and at most.
+pub const FEWEST_PLANES: usize = 6;
+pub const MOST_PLANES: usize = 32;
 
 /// Paper 01's rule: equal bits, both NaN, or both zero.
 pub fn matches(judge: f64, ours: f64) -> bool {

@@ -1,6 +1,7 @@
 //! What a call is lent, and its two sides.
 
-use crate::inputs::{FEWEST, Volume, volume_length};
+use crate::inputs::{Volume, volume_length};
+use crate::judge::FEWEST_PLANES;
 use std::hint::black_box;
 use std::{ptr, slice};
 
@@ -80,10 +81,10 @@ impl<const N: usize> Taken for [f64; N] {
 /// planes on is right.
 impl Taken for Volume {
     type Seen = [f64];
-    const SHAPE: Shape = Shape::Slice(volume_length(FEWEST));
+    const SHAPE: Shape = Shape::Slice(volume_length(FEWEST_PLANES));
 
     fn seen(lent: &[f64]) -> Option<&[f64]> {
-        (lent.len() >= volume_length(FEWEST)).then_some(lent)
+        (lent.len() >= volume_length(FEWEST_PLANES)).then_some(lent)
     }
 }
 

@@ -16,6 +16,8 @@ mod exact;
 mod exported;
 mod farm;
 mod grid;
+#[cfg(test)]
+mod header;
 mod inputs;
 mod judge;
 mod lent;

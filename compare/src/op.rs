@@ -41,4 +41,9 @@ pub trait Op: Timed {
     /// The Rust and the archive's function, if it has one, of a call that
     /// lends slices.
     fn sides(&self) -> Option<[Option<&dyn Side>; 2]>;
+
+    /// The judge's refusals in their order: what it answers to a call with
+    /// every fault, while one fault after another is mended.
+    #[cfg(test)]
+    fn refusals(&self) -> Vec<u32>;
 }

@@ -1,7 +1,7 @@
 //! The farm file of paper 02, read by its words, with the Rust's verdict on
 //! each box: the judge of `gf_farm_file` and of the program.
 
-use crate::judge::{NO_FARM_FILE, NO_SUCH_VALUE, WRONG_INPUT, WRONG_OUTPUT, WRONG_SECTION};
+use crate::judge::{FEWEST_PLANES, MOST_PLANES, NO_FARM_FILE, NO_SUCH_VALUE, WRONG_INPUT, WRONG_OUTPUT, WRONG_SECTION};
 use crate::rust::{ask, boxed, counted};
 use openusd::gf::BBox3d;
 
@@ -15,7 +15,7 @@ pub const fn volume_bytes(planes: usize) -> usize {
 }
 
 /// The bytes of the least record of a volume, and of a box's.
-pub const LEAST_VOLUME: usize = 8 * 49;
+pub const LEAST_VOLUME: usize = volume_bytes(FEWEST_PLANES);
 pub const BOX: usize = 8 * 23;
 
 /// How many sections a farm file has at least and at most, the volume's
@@ -85,8 +85,8 @@ fn checked(file: &[u8]) -> Result<(usize, &[u8; 8], Directory<'_>), u32> {
 }
 
 /// The count and the planes of a volume, and zeros behind them.
-fn volume_of(file: &[u8], pair: &[u8; 8], planes: usize) -> [f64; 1 + 4 * 32] {
-    let mut numbers = [0.0; 1 + 4 * 32];
+fn volume_of(file: &[u8], pair: &[u8; 8], planes: usize) -> [f64; 1 + 4 * MOST_PLANES] {
+    let mut numbers = [0.0; 1 + 4 * MOST_PLANES];
     let words = file[section(pair).0 as usize..].as_chunks().0;
     for (to, word) in numbers.iter_mut().zip(&words[..1 + 4 * planes]) {
         *to = f64::from_le_bytes(*word);

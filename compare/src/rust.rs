@@ -1,6 +1,6 @@
 //! The Rust's types from paper 01's records, and back.
 
-use crate::judge::{NO_COUNT, NO_SUCH_VALUE, WRONG_INPUT};
+use crate::judge::{FEWEST_PLANES, MOST_PLANES, NO_COUNT, NO_SUCH_VALUE, WRONG_INPUT};
 use openusd::gf::{
     BBox3d, Camera, Frustum, FrustumPlanes, Mat4d, Plane, Projection, ProjectionParams, Range1d, Range2d, Range3d, Ray,
     Rotation, Screens, Vec2d, Vec3d, Vec4d,
@@ -141,9 +141,10 @@ const SOME_FRUSTUM: Frustum = Frustum {
     projection: Projection::Perspective,
 };
 
-/// How many planes a volume's first number states: a whole count from 6 to 32.
+/// How many planes a volume's first number states: a whole count within the
+/// limits.
 pub fn counted(number: f64) -> Result<usize, u32> {
-    (6..=32).find(|&n| n as f64 == number).ok_or(NO_COUNT)
+    (FEWEST_PLANES..=MOST_PLANES).find(|&n| n as f64 == number).ok_or(NO_COUNT)
 }
 
 /// How many planes a volume's record holds, where it has room for six: those
@@ -173,7 +174,7 @@ pub fn ask<T>(
     if count == 6 {
         return six(planes(volume));
     }
-    let mut list = [plane(&[0.0; 4]); 32];
+    let mut list = [plane(&[0.0; 4]); MOST_PLANES];
     for (to, numbers) in list.iter_mut().zip(volume[1..][..4 * count].as_chunks().0) {
         *to = plane(numbers);
     }

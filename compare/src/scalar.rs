@@ -228,4 +228,9 @@ impl Op for Scalar {
     fn sides(&self) -> Option<[Option<&dyn Side>; 2]> {
         None
     }
+
+    #[cfg(test)]
+    fn refusals(&self) -> Vec<u32> {
+        vec![]
+    }
 }

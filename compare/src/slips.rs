@@ -3,6 +3,7 @@
 
 use crate::farm::{FarmFiles, Reader};
 use crate::inputs::Rng;
+use crate::judge::MOST_PLANES;
 use crate::reader::BOXES;
 use crate::rust::{boxed, plane};
 use crate::trial::Trial;
@@ -49,12 +50,15 @@ slips! {
     SectionBySection LengthsWithPlaces FlagsWithLengths FlagsFirst LengthsFirst
     // What is read.
     GapRead GapReadBeforeVolume GapReadAtLast VolumeAtDirectorysEnd BoxByOne
-    PlanesAtOldPlace PlanesByOne PlanesSixUsed PlanesLastUnused PlanesSeventhUnused PlanesUsedTo14 PlanesUsedTo16
-    PlanesUsedTo32 RaysUsed RaysInFront
+    PlanesAtOldPlace PlanesByOne PlanesSixUsed PlanesLastUnused PlanesSeventhUnused PlanesUsedTo12
+    PlanesUsedToOneLess PlanesAllUsed RaysUsed RaysInFront
     // The result.
     LastNotJudged SlotByOne Inverted UnusedLeft UnusedZero UnusedOneShort CountOfSections CountNotWritten
     CountOnRefusal OutOnRefusal OutOnFlag FileWritten BesideWritten BesideCountWritten
 }
+
+/// The most planes.
+const MOST: u64 = MOST_PLANES as u64;
 
 /// A number of the file, zeros where it has ended.
 fn number(file: &[u8], at: u64, bytes: u64) -> u64 {
@@ -87,12 +91,12 @@ fn stated(slip: Slip, file: &[u8], sections: &Sections) -> Result<u64, u32> {
         _ => number,
     };
     let (least, most) = match slip {
-        Slip::PlanesFiveAllowed => (5, 32),
+        Slip::PlanesFiveAllowed => (5, MOST),
         Slip::PlanesSixAlone => (6, 6),
-        Slip::PlanesSixRefused => (7, 32),
-        Slip::PlanesMostRefused => (6, 31),
-        Slip::PlanesMoreAllowed => (6, 33),
-        _ => (6, 32),
+        Slip::PlanesSixRefused => (7, MOST),
+        Slip::PlanesMostRefused => (6, MOST - 1),
+        Slip::PlanesMoreAllowed => (6, MOST + 1),
+        _ => (6, MOST),
     };
     let none = match slip {
         Slip::PlanesAreTen => 10,
@@ -319,9 +323,9 @@ fn used_planes(slip: Slip, file: &[u8], sections: &Sections) -> Vec<Plane> {
     let used = match slip {
         Slip::PlanesSixUsed => 6,
         Slip::PlanesLastUnused => count - 1,
-        Slip::PlanesUsedTo14 => count.min(14),
-        Slip::PlanesUsedTo16 => count.min(16),
-        Slip::PlanesUsedTo32 => 32,
+        Slip::PlanesUsedTo12 => count.min(12),
+        Slip::PlanesUsedToOneLess => count.min(MOST - 1),
+        Slip::PlanesAllUsed => MOST,
         Slip::RaysUsed => count + 6,
         _ => count,
     };

@@ -122,15 +122,16 @@ fn the_triangle_method_takes_the_rays_it_is_given() {
 fn a_list_of_planes_is_asked_as_the_six_are() {
     let planes = Frustum::default().planes();
     let six = Screens { planes: &planes.planes };
-    // The same planes again, up to 32.
-    let more: Vec<Plane> = (0..32).map(|i| planes.planes[i % 6]).collect();
+    // The same planes again, up to as many as a mask has bits.
+    let most = u32::BITS as usize;
+    let more: Vec<Plane> = (0..most).map(|i| planes.planes[i % 6]).collect();
     let mut yes = [0; 3];
     let mut state = 1_u64;
     let mut coordinate = || {
         state = state.wrapping_mul(6364136223846793005).wrapping_add(1442695040888963407);
         (state >> 40) as f64 / (1 << 20) as f64 - 8.0
     };
-    for count in (6..=32).cycle().take(100_000) {
+    for count in (6..=most).cycle().take(100_000) {
         let [a, b] = [0; 2].map(|_| vec3d(coordinate(), coordinate(), coordinate()));
         let b_box = BBox3d::new(Range3d::new(a, a + vec3d(1.0, 2.0, 3.0)), Mat4d::IDENTITY);
         let asked = [planes.intersects_point(a), planes.intersects_segment(a, b), planes.intersects_bbox(&b_box)];

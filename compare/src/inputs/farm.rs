@@ -201,7 +201,7 @@ pub fn among_others(rng: &mut Rng, six: &[WholePlane; 6]) -> Vec<WholePlane> {
     if rng.once_in(3) {
         return planes;
     }
-    for _ in 0..rng.below((MOST - FEWEST) as u64 + 1) {
+    for _ in 0..rng.below((MOST_PLANES - FEWEST_PLANES) as u64 + 1) {
         let one = six[rng.below(6) as usize];
         let further = match rng.below(64) {
             0 => 1,

@@ -181,7 +181,7 @@ pub(super) fn gap(rng: &mut Rng) -> usize {
 
 /// A length that a section may have by mistake.
 pub(super) fn other_length(rng: &mut Rng) -> usize {
-    let any = volume_bytes(rng.below(MOST as u64 + 2) as usize);
+    let any = volume_bytes(rng.below(MOST_PLANES as u64 + 2) as usize);
     let exact = rng.pick(&[LEAST_VOLUME, LEAST_VOLUME, BOX, BOX, any]);
     match rng.below(8) {
         0..2 => 0,
@@ -196,12 +196,14 @@ pub(super) fn other_length(rng: &mut Rng) -> usize {
 /// plane too few or too many; a record without its count; any length with any
 /// count.
 fn other_volume(rng: &mut Rng, file: &mut FarmFile) {
-    let (own, length) = (file.length(0), rng.pick(&[383, 384, 391, 392, 393, 399, 400, 424, 1223, 1224, 1225, 1256]));
+    let (most, next) = (volume_bytes(MOST_PLANES), volume_bytes(MOST_PLANES + 1));
+    let lengths = [383, 384, 391, 392, 393, 399, 400, 424, most - 1, most, most + 1, next];
+    let (own, length) = (file.length(0), rng.pick(&lengths));
     let whole = file.bytes.split_off(file.offset(0) as usize);
     match rng.below(4) {
         0 => {
-            let many = with_planes(CUBE, MOST + 1);
-            let few = Volume::new(&CUBE[..4 * (FEWEST - 1)].as_chunks().0, &[0.0; 24]);
+            let many = with_planes(CUBE, MOST_PLANES + 1);
+            let few = Volume::new(&CUBE[..4 * (FEWEST_PLANES - 1)].as_chunks().0, &[0.0; 24]);
             file.put(0, &bytes_of(rng.pick(&[few, many]).numbers()));
         }
         1 => file.put(0, &whole[8..]),

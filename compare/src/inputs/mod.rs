@@ -27,6 +27,8 @@ pub use space::*;
 pub use view::*;
 pub use volume::*;
 
+use crate::judge::{FEWEST_PLANES, MOST_PLANES};
+
 /// Splitmix64.
 pub struct Rng(u64);
 

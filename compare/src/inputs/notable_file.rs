@@ -4,6 +4,7 @@
 use super::*;
 use crate::judge::{NO_COUNT, NO_FARM_FILE, NO_SUCH_VALUE, WRONG_INPUT, WRONG_SECTION};
 use crate::reader::{self, BOX, BOXES, LARGEST, LEAST_VOLUME, volume_bytes};
+use crate::rust;
 
 pub struct NotableFile {
     pub what: String,
@@ -278,62 +279,74 @@ fn lengths(list: &mut List) {
 /// The cube and a wall at x = 2 as the plane at this place behind the six;
 /// the others are further out.
 fn walled(planes: usize, place: usize) -> Volume {
-    let mut more = vec![[-1.0, 0.0, 0.0, -20.0]; planes - FEWEST];
+    let mut more = vec![[-1.0, 0.0, 0.0, -20.0]; planes - FEWEST_PLANES];
     more[place] = [-1.0, 0.0, 0.0, -2.0];
     Volume::with_more(CUBE, &more)
 }
 
+/// Those of these numbers that a volume can have of planes.
+fn counts(of: &[usize]) -> impl Iterator<Item = usize> {
+    of.iter().copied().filter(|&count| count <= MOST_PLANES)
+}
+
 /// How many planes the volume has, and how long it is.
 fn planes(list: &mut List) {
-    for count in [7, 14, 32] {
+    for count in counts(&[7, 14, MOST_PLANES]) {
         list.add(0, format!("{count} planes, some further out"), viewed(with_planes(CUBE, count), 4));
     }
     list.add(0, "a wall as the last of 7 planes, and a block before it", viewed(walled(7, 0), 4));
-    for count in [8, 14, 15, 17, 31, 32] {
+    for count in counts(&[8, 14, 15, 17, MOST_PLANES - 1, MOST_PLANES]) {
         list.add(0, format!("a wall as the last of {count} planes"), viewed(walled(count, count - 7), 1));
     }
-    for place in [0, 1, 9, 24] {
-        list.add(0, format!("a wall at place {place} of 26"), viewed(walled(32, place), 1));
+    let further = MOST_PLANES - FEWEST_PLANES;
+    for place in [0, 1, 9, 24].into_iter().filter(|&place| place < further) {
+        list.add(0, format!("a wall at place {place} of {further}"), viewed(walled(MOST_PLANES, place), 1));
     }
     let walled_rays = Volume::new(&CUBE[..24].as_chunks().0.repeat(2)[..7], &[-1.0; 24]);
     list.add(0, "rays that would be walls", viewed(walled_rays, 4));
-    list.edited(0, "a ray that is not a number", viewed(with_planes(CUBE, 32), 1), |file| {
-        (file.set_number(0, 129, f64::NAN), file.set_number(0, 152, f64::NAN));
+    list.edited(0, "a ray that is not a number", viewed(with_planes(CUBE, MOST_PLANES), 1), |file| {
+        let behind = 1 + 4 * MOST_PLANES;
+        (file.set_number(0, behind, f64::NAN), file.set_number(0, behind + 23, f64::NAN));
     });
     // A count that is none, and one of another length.
     for count in COUNTS {
         let refusal = match count {
             6.0 => 0,
-            7.0 | 31.0 | 32.0 => WRONG_SECTION,
+            _ if rust::counted(count).is_ok() => WRONG_SECTION,
             _ => NO_COUNT,
         };
         list.add(refusal, format!("a count of {count}"), viewed(Volume::of(CUBE).counted(count), 1));
     }
-    for (count, refusal) in [(6.0, WRONG_SECTION), (31.0, WRONG_SECTION), (33.0, NO_COUNT), (288.0, NO_COUNT)] {
-        let volume = with_planes(CUBE, 32).counted(count);
-        list.add(refusal, format!("a count of {count} for 32 planes"), viewed(volume, 1));
+    let (one_less, too_many) = ((MOST_PLANES - 1) as f64, (MOST_PLANES + 1) as f64);
+    let in_a_byte = (MOST_PLANES + 256) as f64;
+    for (count, refusal) in
+        [(6.0, WRONG_SECTION), (one_less, WRONG_SECTION), (too_many, NO_COUNT), (in_a_byte, NO_COUNT)]
+    {
+        let volume = with_planes(CUBE, MOST_PLANES).counted(count);
+        list.add(refusal, format!("a count of {count} for {MOST_PLANES} planes"), viewed(volume, 1));
     }
     list.add(WRONG_SECTION, "a count of 6 for 7 planes", viewed(with_planes(CUBE, 7).counted(6.0), 1));
     let five = Volume::new(&CUBE[..20].as_chunks().0, &[0.0; 24]);
     list.add(WRONG_SECTION, "5 planes", viewed(five, 1));
-    list.add(NO_COUNT, "33 planes", viewed(with_planes(CUBE, 33), 1));
-    // Lengths about those of 7 and 32 planes.
+    list.add(NO_COUNT, "a plane too many", viewed(with_planes(CUBE, MOST_PLANES + 1), 1));
+    // Lengths about those of 7 planes and of the most.
     for length in [392, 423, 425, 432, 456] {
         let file = viewed_of_lengths(with_planes(CUBE, 7), 1, &[(0, length)]);
         list.add(WRONG_SECTION, format!("7 planes in {length} bytes"), file);
     }
-    assert_eq!(volume_bytes(32), 1224);
-    for length in [392, 1192, 1216, 1223, 1225, 1232] {
-        let file = viewed_of_lengths(with_planes(CUBE, 32), 1, &[(0, length)]);
-        list.add(WRONG_SECTION, format!("32 planes in {length} bytes"), file);
+    let most = volume_bytes(MOST_PLANES);
+    for length in [LEAST_VOLUME, most - 32, most - 8, most - 1, most + 1, most + 8] {
+        let file = viewed_of_lengths(with_planes(CUBE, MOST_PLANES), 1, &[(0, length)]);
+        list.add(WRONG_SECTION, format!("{MOST_PLANES} planes in {length} bytes"), file);
     }
     // No count, in less than there is room for six planes, and in more.
     let nan = f64::NAN;
-    for (count, length) in [(nan, 0), (nan, 8), (5.0, 360), (nan, 384), (33.0, 384), (nan, 391), (6.5, 391)] {
+    for (count, length) in [(nan, 0), (nan, 8), (5.0, 360), (nan, 384), (too_many, 384), (nan, 391), (6.5, 391)] {
         let file = viewed_of_lengths(Volume::of(CUBE).counted(count), 1, &[(0, length)]);
         list.add(WRONG_SECTION, format!("a count of {count} in {length} bytes"), file);
     }
-    for (count, length) in [(nan, 393), (33.0, 393), (6.5, 399), (-6.0, 400), (nan, 424), (5.0, 1224), (33.0, 1255)] {
+    let more = [(nan, 393), (too_many, 393), (6.5, 399), (-6.0, 400), (nan, 424), (5.0, most), (too_many, most + 31)];
+    for (count, length) in more {
         let file = viewed_of_lengths(Volume::of(CUBE).counted(count), 1, &[(0, length)]);
         list.add(NO_COUNT, format!("a count of {count} in {length} bytes"), file);
     }
@@ -389,7 +402,8 @@ fn several(list: &mut List) {
         },
     );
     for (i, length) in [(1, 183), (3, 0), (2, 392)] {
-        let file = viewed_of_lengths(Volume::of(CUBE).counted(33.0), 3, &[(i, length)]);
+        let too_many = (MOST_PLANES + 1) as f64;
+        let file = viewed_of_lengths(Volume::of(CUBE).counted(too_many), 3, &[(i, length)]);
         list.add(NO_COUNT, format!("no count, and a box of {length} bytes"), file);
     }
     for count in [5.0, f64::NAN] {

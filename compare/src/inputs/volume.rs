@@ -2,10 +2,6 @@
 
 use super::*;
 
-/// The fewest and the most planes.
-pub const FEWEST: usize = 6;
-pub const MOST: usize = 32;
-
 /// How many numbers the record of so many planes has.
 pub const fn volume_length(planes: usize) -> usize {
     1 + 4 * planes + 24
@@ -17,14 +13,14 @@ pub type Six = [f64; 48];
 /// A record of a volume, of any length up to that of one plane too many.
 #[derive(Clone, Copy)]
 pub struct Volume {
-    numbers: [f64; volume_length(MOST + 1)],
+    numbers: [f64; volume_length(MOST_PLANES + 1)],
     len: usize,
 }
 
 impl Volume {
     /// These planes, with their count in front and the rays behind.
     pub fn new(planes: &[[f64; 4]], rays: &[f64; 24]) -> Volume {
-        let mut numbers = [0.0; volume_length(MOST + 1)];
+        let mut numbers = [0.0; volume_length(MOST_PLANES + 1)];
         let len = volume_length(planes.len());
         numbers[0] = planes.len() as f64;
         numbers[1..][..4 * planes.len()].copy_from_slice(planes.as_flattened());
@@ -54,14 +50,17 @@ impl Volume {
     }
 }
 
+/// The most planes, as a volume states them.
+const MOST: f64 = MOST_PLANES as f64;
+
 /// Numbers that are no count, and some that are.
 pub const COUNTS: [f64; 26] = [
     6.0,
     7.0,
-    31.0,
-    32.0,
+    MOST - 1.0,
+    MOST,
     5.0,
-    33.0,
+    MOST + 1.0,
     0.0,
     -0.0,
     1.0,
@@ -70,8 +69,8 @@ pub const COUNTS: [f64; 26] = [
     6.5,
     5.999999999999999,
     6.000000000000001,
-    31.999999999999996,
-    32.00000000000001,
+    MOST.next_down(),
+    MOST.next_up(),
     5e-324,
     262.0,
     65_542.0,
@@ -110,10 +109,10 @@ fn with_further(rng: &mut Rng, six: Six, further: usize) -> Volume {
 /// A record of six planes, and half the time of others behind them; once in
 /// a while with a count that is none, or not its own.
 pub fn screened(rng: &mut Rng, six: Six) -> Volume {
-    let further = if rng.below(2) == 0 { 0 } else { rng.below((MOST - FEWEST) as u64 + 1) as usize };
+    let further = if rng.below(2) == 0 { 0 } else { rng.below((MOST_PLANES - FEWEST_PLANES) as u64 + 1) as usize };
     let volume = with_further(rng, six, further);
     if rng.once_in(64) {
-        return with_further(rng, six, MOST - FEWEST + 1);
+        return with_further(rng, six, MOST_PLANES - FEWEST_PLANES + 1);
     }
     match rng.below(32) {
         0..3 => volume.counted(other_planes(rng, volume.numbers[0])),
@@ -124,7 +123,7 @@ pub fn screened(rng: &mut Rng, six: Six) -> Volume {
 /// A record of six planes, and one time in three of others behind them: few,
 /// any number, as many as there can be.
 pub fn surveyed(rng: &mut Rng, six: Six) -> Volume {
-    let most = (MOST - FEWEST) as u64;
+    let most = (MOST_PLANES - FEWEST_PLANES) as u64;
     let further = match rng.below(12) {
         0..2 => 1 + rng.below(3),
         2 => rng.below(most),
@@ -146,6 +145,7 @@ pub fn other_planes(rng: &mut Rng, count: f64) -> f64 {
 /// A record of so many planes, those behind the six a little further out.
 pub fn with_planes(six: Six, count: usize) -> Volume {
     let planes = six[..24].as_chunks::<4>().0;
-    let more: Vec<[f64; 4]> = (FEWEST..count).map(|i| with(planes[i % 6], &[(3, planes[i % 6][3] - 1.0)])).collect();
+    let more: Vec<[f64; 4]> =
+        (FEWEST_PLANES..count).map(|i| with(planes[i % 6], &[(3, planes[i % 6][3] - 1.0)])).collect();
     Volume::with_more(six, &more)
 }

@@ -32,10 +32,17 @@ fn set_from_view_and_projection() -> Box<dyn Op> {
         if numbers.iter().all(|x| x.is_finite()) { Ok(numbers) } else { Err(NOT_FINITE) }
     })
     .fixed(fixed().into_iter().map(|(_, given)| lent(given)).collect())
+    .mended(mended().map(lent).into())
     .drawn(|_, rng| lent(inputs::camera(rng)))
     .timed("perspective", |_, rng| lent(ordinary(rng, 0.0)))
     .timed("orthographic", |_, rng| lent(ordinary(rng, 1.0)))
     .op()
+}
+
+/// No inverse, no projection and no focal length; then mended in this order.
+fn mended() -> [Given; 4] {
+    let (none, seen) = ([0.0; 16], inputs::projected(&SEEN));
+    [(none, none, f32::NAN), (VIEW, none, f32::NAN), (VIEW, seen, f32::NAN), (VIEW, seen, 50.0)]
 }
 
 /// Why the Rust sets no camera.

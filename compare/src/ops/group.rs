@@ -234,6 +234,20 @@ impl Op for Group {
     fn sides(&self) -> Option<[Option<&dyn Side>; 2]> {
         Some([Some(self.rust.as_ref()), self.ours.as_deref()])
     }
+
+    #[cfg(test)]
+    fn refusals(&self) -> Vec<u32> {
+        let judged = |numbers: usize, flag: f64, room: usize| {
+            let group = vec![flag; numbers];
+            Desk::new(&group, room).put_to(self.rust.as_ref())
+        };
+        // Too many and not whole boxes; not whole boxes; no room; no flag.
+        let mended =
+            [(MOST + 1, 0.5, 0), (2 * BOX + 1, 0.5, 0), (2 * BOX, 0.5, 0), (2 * BOX, 0.5, BOX), (2 * BOX, 1.0, BOX)];
+        let mut answers = mended.map(|(numbers, flag, room)| judged(numbers, flag, room)).to_vec();
+        assert_eq!(answers.pop(), Some(0), "the last has no fault");
+        answers
+    }
 }
 
 #[cfg(test)]

@@ -2,6 +2,7 @@
 
 use crate::exported::{call, of_archive};
 use crate::inputs::{self, Boxed, CUBE, IDENTITY, Matrix, Point, Range, Six, Volume, box_of, diagonal, with};
+use crate::judge::{FEWEST_PLANES, MOST_PLANES};
 use crate::op::Op;
 use crate::rust::{ask, boxed, boxed_without_inverse, count_by_length, held, matrix, planes, point, rays};
 use openusd::gf;
@@ -12,16 +13,27 @@ pub fn all() -> Vec<Box<dyn Op>> {
 
 const NAN: f64 = f64::NAN;
 const FAR: f64 = f64::INFINITY;
+
 /// The cube with every odd count, and with others than its own.
 fn odd_counts() -> impl Iterator<Item = Volume> {
     let six = inputs::COUNTS.into_iter().map(|count| Volume::of(CUBE).counted(count));
-    let most = [6.0, 31.0, 32.0, 33.0, 32.5, NAN].into_iter().map(|count| inputs::with_planes(CUBE, 32).counted(count));
+    let full = inputs::with_planes(CUBE, MOST_PLANES);
+    let most = MOST_PLANES as f64;
+    let most = [6.0, most - 1.0, most, most + 1.0, most + 0.5, NAN].into_iter().map(move |count| full.counted(count));
     // Fifty and 52 numbers behind a count of six, and a plane too many.
-    let more = [7, 8, 31, 33].map(|planes| inputs::with_planes(CUBE, planes).counted(6.0));
-    six.chain(most).chain(more).chain([5, 33].map(|planes| inputs::with_planes(CUBE, planes)))
+    let more = [7, 8, MOST_PLANES - 1, MOST_PLANES + 1].map(|planes| inputs::with_planes(CUBE, planes).counted(6.0));
+    let others = [5, MOST_PLANES + 1].map(|planes| inputs::with_planes(CUBE, planes));
+    six.chain(most).chain(more).chain(others)
 }
 
 const UNIT: Range = [0.0, 0.0, 0.0, 1.0, 1.0, 1.0];
+
+/// A volume with no count and another length than any; then with a count, and
+/// then with its length.
+fn mended() -> [Volume; 3] {
+    let long = inputs::with_planes(CUBE, 8);
+    [long.counted(NAN), long.counted(7.0), Volume::of(CUBE)]
+}
 
 fn point_seen(volume: &[f64], count: usize, p: &Point) -> bool {
     ask(volume, count, |v| v.intersects_point(point(p)), |v| v.intersects_point(point(p)))
@@ -60,7 +72,7 @@ fn of_point() -> Box<dyn Op> {
     let short = [2, 10, 18].map(|i: usize| with(CUBE, &[(i % 4, 1e-13)]));
     let fixed = points.map(|p| (CUBE, p)).into_iter();
     let counts = odd_counts().map(|volume| (volume, [5.0; 3]));
-    let screened = points.map(|p| (inputs::with_planes(CUBE, 32), p));
+    let screened = points.map(|p| (inputs::with_planes(CUBE, MOST_PLANES), p));
     let more =
         [(short[0], [0.5; 3]), ([0.0; 48], [1.0; 3]), ([NAN; 48], [1.0; 3]), (with(CUBE, &[(3, NAN)]), [5.0; 3])];
     let six =
@@ -68,10 +80,11 @@ fn of_point() -> Box<dyn Op> {
     let many = || call!(218 gf_intersects_point(volume: Volume, p: 3) -> bool { Ok(point_seen(volume, count_by_length(volume), p)) });
     call!(218 gf_intersects_point(volume: Volume, p: 3) -> bool { Ok(point_seen(volume, held(volume)?, p)) })
         .fixed(fixed.chain(more).map(|(six, p)| (Volume::of(six), p)).chain(counts).chain(screened).collect())
+        .mended(mended().map(|volume| (volume, [5.0; 3])).into())
         .drawn(|_, rng| inputs::volume_and_point(rng))
         .timed_by("frustums", |_, rng| timed_point(rng, 6), six)
         .timed_by("frustums, 14 planes", |_, rng| timed_point(rng, 14), many())
-        .timed_by("frustums, 32 planes", |_, rng| timed_point(rng, 32), many())
+        .timed_by("frustums, the most planes", |_, rng| timed_point(rng, MOST_PLANES), many())
         .op()
 }
 
@@ -129,8 +142,8 @@ fn of_segment() -> Box<dyn Op> {
     });
     let six = segments.map(|(a, b)| (CUBE, a, b)).into_iter().chain(more).chain(ties);
     let counts = odd_counts().map(|volume| (volume, [-5.0, 5.0, 5.0], [15.0, 5.0, 5.0]));
-    // A shed that hides what has x + y above 12, as the last of 7 to 32 planes.
-    let sheds = (7..=32).map(|count| {
+    // A shed that hides what has x + y above 12, as the last of 7 planes to the most.
+    let sheds = (7..=MOST_PLANES).map(|count| {
         let mut more = vec![[-1.0, 0.0, 0.0, -20.0]; count - 6];
         more[count - 7] = [-1.0, -1.0, 0.0, -12.0];
         (Volume::with_more(CUBE, &more), [-2.0, 13.0, 5.0], [13.0, 4.0, 5.0])
@@ -147,10 +160,11 @@ fn of_segment() -> Box<dyn Op> {
         Ok(segment_seen(volume, held(volume)?, p0, p1))
     })
     .fixed(six.map(|(six, a, b)| (Volume::of(six), a, b)).chain(counts).chain(sheds).collect())
+    .mended(mended().map(|volume| (volume, [-5.0, 5.0, 5.0], [5.0; 3])).into())
     .drawn(|_, rng| inputs::volume_and_segment(rng))
     .timed_by("frustums", |_, rng| timed_segment(rng, 6), by_six)
     .timed_by("frustums, 14 planes", |_, rng| timed_segment(rng, 14), by_many())
-    .timed_by("frustums, 32 planes", |_, rng| timed_segment(rng, 32), by_many())
+    .timed_by("frustums, the most planes", |_, rng| timed_segment(rng, MOST_PLANES), by_many())
     .op()
 }
 
@@ -196,9 +210,10 @@ fn of_triangle() -> Box<dyn Op> {
         // Behind a plane each.
         (all, [[-9.0, 5.0, 5.0], [19.0, -40.0, 5.0], [5.0, 50.0, 50.0]]),
     ]);
+    fixed.extend(inexact_triangles().map(|(six, triangle, _)| (six, triangle)));
     // Screens that hide all of the cube, of which a triangle takes no notice;
     // its rays stand behind them.
-    let hidden = [7, 19, 32].map(|count| {
+    let hidden = [7, (FEWEST_PLANES + MOST_PLANES) / 2, MOST_PLANES].map(|count| {
         let more = vec![[0.0, 0.0, 1.0, 50.0]; count - 6];
         move |&(six, triangle): &(Six, [Point; 3])| (Volume::with_more(six, &more), triangle)
     });
@@ -215,9 +230,10 @@ fn of_triangle() -> Box<dyn Op> {
         Ok(triangle_seen(volume, held(volume)?, p0, p1, p2))
     })
     .fixed(fixed.map(|(volume, [a, b, c])| (volume, a, b, c)).collect())
+    .mended(mended().map(|volume| (volume, [5.0; 3], [6.0; 3], [7.0; 3])).into())
     .drawn(|_, rng| inputs::volume_and_triangle(rng))
     .timed_by("frustums", |_, rng| timed_triangle(rng, 6), by_six)
-    .timed_by("frustums, 32 planes", |_, rng| timed_triangle(rng, 32), by_many)
+    .timed_by("frustums, the most planes", |_, rng| timed_triangle(rng, MOST_PLANES), by_many)
     .op()
 }
 
@@ -281,14 +297,17 @@ fn of_box() -> Box<dyn Op> {
         (upward, unplaced([NAN, 0.0, 0.0, 1.0, 1.0, 1.0])),
         (upward, unplaced([0.0, 0.0, 0.0, NAN, 1.0, 1.0])),
     ]);
+    more.extend(inexact_boxes().map(|(six, b, _)| (six, b)));
     // A count that is none comes before a flag that is none.
     let counts = odd_counts().flat_map(|volume| [0.0, 0.5].map(|flag| (volume, box_of(UNIT, IDENTITY, flag))));
-    // A wall at x = 6 as the last of 7 to 32 planes.
-    let walls = (7..=32).map(|count| {
+    // A wall at x = 6 as the last of 7 planes to the most.
+    let walls = (7..=MOST_PLANES).map(|count| {
         let mut more = vec![[-1.0, 0.0, 0.0, -20.0]; count - 6];
         more[count - 7] = [-1.0, 0.0, 0.0, -6.0];
         (Volume::with_more(CUBE, &more), unplaced([7.0, 0.0, 0.0, 9.0, 1.0, 1.0]))
     });
+    let mut mended_boxes = mended().map(|volume| (volume, box_of(UNIT, IDENTITY, 0.5))).to_vec();
+    mended_boxes.push((Volume::of(CUBE), unplaced(UNIT)));
     let fixed = boxes.map(|b| (CUBE, b)).into_iter().chain(more).map(|(six, b)| (Volume::of(six), b));
     let scaled_boxes = |_, rng: &mut inputs::Rng| {
         let (six, _, _, _, b) = inputs::asked(rng);
@@ -299,12 +318,56 @@ fn of_box() -> Box<dyn Op> {
     let many = || call!(221 gf_intersects_bbox(volume: Volume, b: 23) -> bool { box_seen(volume, count_by_length(volume), b) });
     call!(221 gf_intersects_bbox(volume: Volume, b: 23) -> bool { box_seen(volume, held(volume)?, b) })
         .fixed(fixed.chain(counts).chain(walls).collect())
+        .mended(mended_boxes)
         .drawn(|_, rng| inputs::volume_and_box(rng))
         .timed_by("frustums, scaled boxes", scaled_boxes, six())
         .timed_by("frustums, rigid boxes", |_, rng| timed_box(rng, 6), six())
         .timed_by("14 planes, rigid boxes", |_, rng| timed_box(rng, 14), many())
-        .timed_by("32 planes, rigid boxes", |_, rng| timed_box(rng, 32), many())
+        .timed_by("the most planes, rigid boxes", |_, rng| timed_box(rng, MOST_PLANES), many())
         .op()
+}
+
+/// Boxes of docs/DIFFERENCES.md, "Exact geometry", each with its verdict,
+/// which is the exact one of the fourth alone.
+fn inexact_boxes() -> [(Six, Boxed, bool); 4] {
+    let unplaced = |r: Range| box_of(r, IDENTITY, 0.0);
+    // x from 6 to 4; an edge at the origin that points to -x.
+    let crossed = with(CUBE, &[(3, 6.0), (7, -4.0)]);
+    let mut edge = CUBE;
+    edge[..16].copy_from_slice(
+        [[1.0, 1.0, 0.0, 0.0], [1.0, -1.0, 0.0, 0.0], [-1.0, 0.0, 0.0, -10.0], [0.0, -1.0, 0.0, -10.0]].as_flattened(),
+    );
+    // x + y + z at most 3: one placed block, which touches it, by two records.
+    let slope = with(CUBE, &[(4, -1.0), (5, -1.0), (6, -1.0), (7, -3.0)]);
+    [
+        (crossed, unplaced([0.0, 0.0, 0.0, 10.0, 10.0, 10.0]), true),
+        (edge, unplaced([-3.0, -5.0, 0.0, -1.0, 5.0, 1.0]), true),
+        (slope, unplaced([0.0, 0.0, 3.0, 1.0, 1.0, 4.0]), false),
+        (slope, box_of(UNIT, with(IDENTITY, &[(14, 3.0)]), 0.0), true),
+    ]
+}
+
+/// Triangles of the same table, each with its verdict, which is not the exact
+/// one.
+fn inexact_triangles() -> [(Six, [Point; 3], bool); 3] {
+    // x, y and z from 0 to 2, seen from above: near is z at most 2.
+    let planes = [
+        [1.0, 0.0, 0.0, 0.0],
+        [-1.0, 0.0, 0.0, -2.0],
+        [0.0, 1.0, 0.0, 0.0],
+        [0.0, -1.0, 0.0, -2.0],
+        [0.0, 0.0, -1.0, -2.0],
+        [0.0, 0.0, 1.0, 0.0],
+    ];
+    let rays = [[0.0, 0.0], [0.0, 2.0], [2.0, 2.0], [2.0, 0.0]].map(|[x, y]| [x, y, 2.0, 0.0, 0.0, -1.0]);
+    let mut small = CUBE;
+    small[..24].copy_from_slice(planes.as_flattened());
+    small[24..].copy_from_slice(rays.as_flattened());
+    [
+        (CUBE, [[-100.0, -100.0, 5.0], [100.0, -100.0, 5.0], [0.0, 200.0, 5.0]], false),
+        (small, [[1.0, -1.0, -1.0], [1.0, 6.0, -1.0], [1.0, -1.0, 6.0]], false),
+        (small, [[-1.0, 0.0, 0.0], [0.0, -1.0, 0.0], [0.0, 0.0, -1.0]], true),
+    ]
 }
 
 fn of_view_volume() -> Box<dyn Op> {
@@ -365,4 +428,65 @@ fn of_view_volume() -> Box<dyn Op> {
 fn perspective_view(rng: &mut inputs::Rng) -> Matrix {
     let record = with(inputs::ordinary_projection(rng), &[(0, 0.0)]);
     (matrix(&inputs::placement(rng)) * matrix(&inputs::projected(&record))).0
+}
+
+#[cfg(test)]
+mod tests {
+    use super::*;
+    use crate::exact;
+    use crate::inputs::{FarmBox, Rng, Turn, WholePlane, farm_volume};
+
+    /// Both are compared by `run` too, being fixed inputs.
+    #[test]
+    fn verdicts_that_are_not_exact() {
+        for (six, b, verdict) in inexact_boxes() {
+            assert_eq!(box_seen(Volume::of(six).numbers(), 6, &b), Ok(verdict), "{b:?}");
+        }
+        for (six, [p0, p1, p2], verdict) in inexact_triangles() {
+            assert_eq!(triangle_seen(Volume::of(six).numbers(), 6, &p0, &p1, &p2), verdict, "{p0:?}");
+        }
+        let (slope, ..) = inexact_boxes()[2];
+        assert!(point_seen(Volume::of(slope).numbers(), 6, &[0.0, 0.0, 3.0]));
+    }
+
+    /// How many of 100,000 grid boxes get a no from an oblique segment plane,
+    /// where their furthest corner is this far along its normal from it. The
+    /// other planes hold all of each box.
+    fn refused_by_oblique_planes(size: i64, coordinate: i64, ahead: i64) -> usize {
+        let wall = |axis: usize, side: i64| {
+            let normal = std::array::from_fn(|i| if i == axis { side } else { 0 });
+            WholePlane { normal, distance: -100_000 }
+        };
+        let drawn = |case: u64| {
+            let rng = &mut Rng::at(7, case);
+            let mut whole = |size: i64| -> [i64; 3] { std::array::from_fn(|_| rng.whole(size)) };
+            let (normal, a, b) = (whole(size), whole(coordinate), whole(coordinate));
+            let mut placement = Turn::numbered(case % Turn::COUNT);
+            placement.translation = whole(coordinate);
+            let (min, max) = (std::array::from_fn(|i| a[i].min(b[i])), std::array::from_fn(|i| a[i].max(b[i])));
+            let given = FarmBox { min, max, placement, flag: false };
+            let [from, to] = given.placed();
+            let furthest = std::array::from_fn(|i| if normal[i] > 0 { to[i] } else { from[i] });
+            let distance = WholePlane { normal, distance: 0 }.reach(furthest) - ahead;
+            let oblique = normal.iter().filter(|&&x| x != 0).count() > 1 && distance.abs() <= 16_777_216;
+            let planes = [(0, 1), (1, 1), (1, -1), (2, 1), (2, -1)].map(|(axis, side)| wall(axis, side));
+            let planes = [&[WholePlane { normal, distance }][..], &planes].concat();
+            assert_eq!(exact::point(&planes, furthest), ahead >= 0);
+            oblique.then(|| (farm_volume(&planes), given.record()))
+        };
+        let mut all = (0..).filter_map(drawn).take(100_000);
+        all.by_ref().filter(|(volume, b)| box_seen(volume.numbers(), 6, b) == Ok(false)).count()
+    }
+
+    /// docs/VERDICTS.md, "What is not promised".
+    #[test]
+    fn touching_an_oblique_plane() {
+        for (size, coordinate) in [(3, 10), (3, 1000), (128, 1000), (128, 20_000)] {
+            let refused = refused_by_oblique_planes(size, coordinate, 0);
+            println!("normals to {size}, coordinates to {coordinate}: {refused} of 100,000 get no");
+            assert!((18_000..27_000).contains(&refused), "{refused}");
+            assert_eq!(refused_by_oblique_planes(size, coordinate, 1), 0);
+            assert_eq!(refused_by_oblique_planes(size, coordinate, -1), 100_000);
+        }
+    }
 }
