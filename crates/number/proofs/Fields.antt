@@ -12,7 +12,7 @@ use lib.Ieee.{nan, inf, Format, binary64, prec, low, odd, hid, ones, top, isNan,
 use lib.Ieee.Bits.{is-true, is-false, nanBits-is, nanBits-above}
 use lib.Ieee.Exact.{HasValue, odd-sign}
 use lib.Ieee.Fits.{eq→eqb}
-use Rattle.number.specs.Steps.{Normalised, fieldUnits, unitsOf}
+use Rattle.number.specs.Steps.Magnitude.{Normalised, fieldUnits, unitsOf}
 
 fields-value : (f : Format) (s : Bool) (x t : ℕ) → x < ones f → HasValue (ofFields f s x t) s (fieldUnits f x t) (2 ^ low f)
 unfolding ofFields

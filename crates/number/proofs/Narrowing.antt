@@ -15,7 +15,7 @@ use lib.Ieee.Nearest.{closest, closest-same, nearest-ge}
 use lib.Ieee.Scale.{round-same}
 use Rattle.number.specs.declared.Scaled.{Scaled}
 use Rattle.number.specs.Format.{narrowOf}
-use Rattle.number.specs.Steps.{Narrowed, Normalised, unitsOf}
+use Rattle.number.specs.Steps.Magnitude.{Narrowed, Normalised, unitsOf}
 use Rattle.number.proofs.Fields.{bits-value, signed, unsigned}
 use Rattle.number.proofs.Pack.{pack}
 use Rattle.number.proofs.Rounding.{closest-zero, round-at}

@@ -10,7 +10,7 @@ use lib.Dec.{T, leb}
 use lib.Ieee.{Float, inf, binary64, isNan, fits, top, toBits, ofBits}
 use lib.Ieee.Bits.{ofBits-toBits}
 use lib.Ieee.Exact.{HasValue}
-use Rattle.number.specs.Steps.{unitsOf}
+use Rattle.number.specs.Steps.Magnitude.{unitsOf}
 use Rattle.number.proofs.Fields.{bits-value, pattern, unsigned, signed}
 use Rattle.number.proofs.Nan.{number}
 

@@ -10,7 +10,7 @@ use lib.Ieee.{binary64, ofBits, units, hid, ones}
 use lib.Ieee.Fits.{nearest-le}
 use lib.Ieee.Nearest.{nearest-ge}
 use Rattle.number.specs.Root.{rootOf, restOf, roundRoot}
-use Rattle.number.specs.Steps.{rootDigits}
+use Rattle.number.specs.Steps.Root.{rootDigits}
 use Rattle.number.proofs.Pack.{pack}
 use Rattle.number.proofs.WholeRoot.{root-le, root-lt, square-lt}
 use Rattle.number.proofs.RootRounding.{root-rounds, rest-le}

@@ -1,75 +1,124 @@
--- The search for a root, bit by bit: `Searched` of `specs/Search.antt` holds after the first bit, one bit more keeps it, and after the last bit the whole
--- root is found. Assumes nothing.
+-- The search for a root, bit by bit: `After` of `specs/Search.antt` holds after the first bit, one bit more keeps it, and after the last bit the whole root is
+-- found. The idea: (root + h)² = root² + (2 * root + h) * h, so that what a bit h adds to the square is what the remainder loses. Assumes nothing.
 use mathlib.Core.Path.{_≡_, refl, sym, ap, _∙_, subst}
 use mathlib.Core.Bool.{Bool, true, false, not, cond}
-use Prim.Native.Nat.{ℕ, zero, suc, _+_, _-_, _*_, _/_, _%_, _^_, _≤_, _<_}
-use native.Mathlib.Nat.{mul-one, zero-mul, mod-lt, div-add-mod', mul-lt-mul-of-pos-right}
+use Prim.Native.Nat.{ℕ, zero, suc, _+_, _-_, _*_, _/_, _^_, _≤_, _<_}
+use native.Mathlib.Nat.{mul-one, zero-mul, mul-div-cancel, pow-succ', le-trans, lt-of-le-of-lt, le-add-right, le-of-eq}
 use native.Mathlib.Omega.{arith}
-use lib.Arith.{digits-div}
-use lib.Dec.{T, ltb, nltb→le}
+use lib.Dec.{T, leb, leb→le, nleb→lt, ltb, nltb→le}
 use lib.Pow.{pow-pos}
 use Rattle.number.specs.Root.{rootOf, restOf}
-use Rattle.number.specs.Search.{Searched, Found, usedOf}
+use Rattle.number.specs.Search.{Searched, After, Found, usedOf, keptOf, passedOf, triedOf}
+use Rattle.number.specs.declared.root.PartialRoot.{PartialRoot}
 use Rattle.number.specs.declared.root.WholeRoot.{WholeRoot}
 use Rattle.number.proofs.RootRounding.{rest-none, rest-some}
-use Rattle.number.proofs.WholeRoot.{root-unique}
+use Rattle.number.proofs.WholeRoot.{root-unique, square-lt}
 
--- ---- the number as far as used, from the whole of it
-as-used : (n b digits remainder : ℕ) → 0 < b → digits * b * (digits * b) + remainder * b ≡ n → digits * digits + remainder / b ≡ usedOf n b
-as-used n b digits remainder B e = sym (ap (λ (i : ℕ). i / (b * b)) whole ∙ digits-div (digits * digits + remainder / b) rest)
-  where
-    rest : remainder % b * b < b * b
-    rest = mul-lt-mul-of-pos-right (mod-lt remainder B) B
+-- ---- the number as far as used
+-- a number of units of b is used whole, and of units of its half too
+all-used : (q b : ℕ) → 0 < b → usedOf (q * b) b ≡ q * b
+all-used q b B = ap (λ (i : ℕ). i * b) (mul-div-cancel q B)
 
-    split : (q m : ℕ) → q * b + m ≡ remainder → n ≡ (digits * digits + q) * (b * b) + m * b
-    split q m f = sym e ∙ ap (λ (i : ℕ). digits * b * (digits * b) + i * b) (sym f) ∙ omega arith
+used-whole : (n b q : ℕ) → 0 < b → n ≡ q * b → usedOf n b ≡ n
+used-whole n b q B e = ap (λ (i : ℕ). usedOf i b) e ∙ all-used q b B ∙ sym e
 
-    whole : n ≡ (digits * digits + remainder / b) * (b * b) + remainder % b * b
-    whole = split (remainder / b) (remainder % b) (div-add-mod' remainder b)
-
-searched : (n b root remainder digits : ℕ) → 0 < b → root ≡ digits * b → root * root + remainder * b ≡ n → remainder < 2 * root + b
+searched : (n b root remainder digits q : ℕ) → 0 < b → n ≡ q * b → root ≡ digits * b → root * root + remainder * b ≡ n → remainder < 2 * root + b
     → Searched n b root remainder
-searched n b root remainder digits B r e l = record {
+searched n b root remainder digits q B u r e l = record {
   digits = digits;
   root-is = r;
-  used = as-used n b digits remainder B (ap (λ (i : ℕ). i * i + remainder * b) (sym r) ∙ e);
-  whole = e;
+  used = e ∙ sym (used-whole n b q B u);
+  unused = used-whole n b q B u;
   most = l;
 }
 
+pub whole : {n b root remainder : ℕ} → Searched n b root remainder → root * root + remainder * b ≡ n
+whole s = s .used ∙ s .unused
+
 -- ---- the first bit
-pub first : (number : ℕ) → 2 ^ 53 ≤ number → number < 2 ^ 55 → Searched (number * 2 ^ 53) (2 ^ 53) (2 ^ 53) (number - 2 ^ 53)
-first number l g = searched _ _ _ _ 1 (pow-pos 53) refl (omega arith) (omega arith)
+pub first : (number : ℕ) → 2 ^ 53 ≤ number → number < 2 ^ 55
+    → After (number * 2 ^ 53) (2 ^ 53) (record { trial = 5 * 2 ^ 53; left = 4 * (number - 2 ^ 53) })
+first number l g = record {
+  power = 53;
+  bit = refl;
+  root = 2 ^ 53;
+  remainder = number - 2 ^ 53;
+  searched = searched _ _ _ _ 1 number (pow-pos 53) refl refl (omega arith) (omega arith);
+  trial = refl;
+  left = refl;
+}
 
 -- ---- one bit more, h, after the bit b
 module _ (n b h root remainder : ℕ) (B : b ≡ 2 * h) (H : 0 < h) (s : Searched n b root remainder) where
   halves : root ≡ s .digits * (2 * h)
   halves = s .root-is ∙ ap (λ (i : ℕ). s .digits * i) B
 
-  whole : root * root + remainder * (2 * h) ≡ n
-  whole = ap (λ (i : ℕ). root * root + remainder * i) (sym B) ∙ s .whole
+  units : n ≡ n / b * 2 * h
+  units = sym (s .unused) ∙ ap (λ (i : ℕ). n / b * i) B ∙ omega arith
+
+  square : root * root + remainder * (2 * h) ≡ n
+  square = ap (λ (i : ℕ). root * root + remainder * i) (sym B) ∙ whole s
 
   -- the bit is kept: (root + h)² = root² + (2 * root + h) * h
-  pub kept : 2 * root + h ≤ 2 * remainder → Searched n h (root + h) (2 * remainder - (2 * root + h))
-  kept l = searched n h (root + h) (2 * remainder - (2 * root + h)) (2 * s .digits + 1) H (let e = halves in omega arith)
+  kept : 2 * root + h ≤ 2 * remainder → Searched n h (root + h) (2 * remainder - (2 * root + h))
+  kept l = searched n h (root + h) (2 * remainder - (2 * root + h)) (2 * s .digits + 1) (n / b * 2) H units (let e = halves in omega arith)
       (squares (2 * remainder - (2 * root + h)) (omega arith)) (let m = s .most in omega arith)
     where
       squares : (d : ℕ) → d + (2 * root + h) ≡ 2 * remainder → (root + h) * (root + h) + d * h ≡ n
-      squares d f = let e = ap (λ (i : ℕ). i * h) f in let w = whole in omega arith
+      squares d f = let e = ap (λ (i : ℕ). i * h) f in let w = square in omega arith
 
   -- it is not
-  pub passed : 2 * remainder < 2 * root + h → Searched n h root (2 * remainder)
-  passed l = searched n h root (2 * remainder) (2 * s .digits) H (let e = halves in omega arith) (let w = whole in omega arith) (omega arith)
+  passed : 2 * remainder < 2 * root + h → Searched n h root (2 * remainder)
+  passed l = searched n h root (2 * remainder) (2 * s .digits) (n / b * 2) H units (let e = halves in omega arith) (let w = square in omega arith) (omega arith)
+
+-- what holds after the bit b holds after the next, as the code holds it
+pub next : (n b : ℕ) (s : PartialRoot) → 1 < b → After n b s → After n (b / 2) (triedOf s b)
+next n b s h a = go (a .power) (a .bit)
+  where
+    go : (k : ℕ) → b ≡ 2 ^ k → After n (b / 2) (triedOf s b)
+    go zero f = absurd (omega arith)
+    go (suc k) f = by (leb (s .trial) (s .left)) (leb→le (s .trial) (s .left)) (nleb→lt (s .trial) (s .left))
+      where
+        twice : b ≡ 2 * 2 ^ k
+        twice = f ∙ pow-succ' 2 k
+
+        half : b / 2 ≡ 2 ^ k
+        half = omega arith
+
+        by : (z : Bool) → (T z → s .trial ≤ s .left) → (T (not z) → s .left < s .trial) → After n (b / 2) (cond z (keptOf s b) (passedOf s b))
+        by true l g = record {
+          power = k;
+          bit = half;
+          root = a .root + b / 2;
+          remainder = 2 * a .remainder - (2 * a .root + b / 2);
+          searched = kept n b (b / 2) (a .root) (a .remainder) (omega arith) (omega (arith, pow-pos k)) (a .searched) (omega (arith, a .trial, a .left, l tt));
+          trial = omega (arith, a .trial);
+          left = omega (arith, a .trial, a .left, l tt);
+        }
+        by false l g = record {
+          power = k;
+          bit = half;
+          root = a .root;
+          remainder = 2 * a .remainder;
+          searched = passed n b (b / 2) (a .root) (a .remainder) (omega arith) (omega (arith, pow-pos k)) (a .searched) (omega (arith, a .trial, a .left, g tt));
+          trial = omega (arith, a .trial);
+          left = omega (arith, a .left);
+        }
+
+-- the root so far is below k where n is below k * k
+pub root-below : (n b root remainder k : ℕ) → Searched n b root remainder → n < k * k → root < k
+root-below n b root remainder k s l =
+    square-lt root k (lt-of-le-of-lt (le-trans (le-add-right (root * root) (remainder * b)) (le-of-eq (whole s))) l)
 
 -- ---- the last bit, or nothing left
 pub exact : (n b root remainder q : ℕ) → Searched n b root remainder → q ≡ root → remainder ≡ 0 → Found n (record { root = q; rest = 0 })
-exact n b root remainder q s e z = record { remainder = 0; searched = searched n 1 q 0 q (omega arith) (sym (mul-one q)) square (omega arith); rest = refl }
+exact n b root remainder q s e z = record { remainder = 0; searched = searched n 1 q 0 q n (omega arith) (sym (mul-one n)) (sym (mul-one q)) square (omega arith); rest = refl }
   where
     square : q * q + 0 * 1 ≡ n
     square =
         ap (λ (i : ℕ). i * i + 0 * 1) e
         ∙ sym (ap (λ (i : ℕ). root * root + i) {x = remainder * b} {y = 0 * 1} (ap (λ (i : ℕ). i * b) z ∙ zero-mul b))
-        ∙ s .whole
+        ∙ whole s
 
 some : (remainder : ℕ) → (remainder ≡ 0 → ⊥) → _≡_ {A = ℕ} 1 (cond (ltb 0 remainder) 1 0)
 some remainder z = go (ltb 0 remainder) (nltb→le 0 remainder)
@@ -88,7 +137,7 @@ inexact n b root remainder q s e f z = record {
 -- ---- what is found is the whole root
 module _ (n : ℕ) (r : WholeRoot) (f : Found n r) where
   least : r .root * r .root + f .remainder ≡ n
-  least = let w = f .searched .whole in omega arith
+  least = let w = whole (f .searched) in omega arith
 
   pub found-root : r .root ≡ rootOf n
   found-root = let e = least in let m = f .searched .most in sym (root-unique n (r .root) (omega arith) (omega arith))

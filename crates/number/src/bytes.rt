@@ -2,7 +2,6 @@
 ghost use mathlib.Core.Path.{_≡_};
 ghost use Prim.Native.Nat.{_+_, _<_, _≤_, _^_};
 ghost use lib.ListN.{length, take, drop};
-ghost use lib.Ieee.{binary64, ofBits};
 ghost use Rattle.number.specs.Bytes.{littleEndian, wordAt, numberAt, loaded};
 use crate::format::from_bits;
 

@@ -3,7 +3,7 @@ ghost use mathlib.Core.Path.{_≡_};
 ghost use Prim.Native.Nat.{_≤_};
 ghost use lib.Ieee.{binary32, binary64, ofBits, toBits};
 ghost use Rattle.number.specs.Format.{narrowOf, widenOf};
-ghost use Rattle.number.specs.Steps.{Narrowed};
+ghost use Rattle.number.specs.Steps.Magnitude.{Narrowed};
 use crate::nearest;
 use crate::normalised;
 

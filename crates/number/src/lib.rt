@@ -2,7 +2,7 @@
 ghost use mathlib.Core.Path.{_≡_};
 ghost use Prim.Native.Nat.{_<_, _^_, _≤_};
 ghost use lib.Ieee.Nearest.{closest};
-ghost use Rattle.number.specs.Steps.{Normalised};
+ghost use Rattle.number.specs.Steps.Magnitude.{Normalised};
 
 pub mod answer;
 pub mod bytes;

@@ -4,8 +4,9 @@ ghost use mathlib.Core.Bool.{cond};
 ghost use Prim.Native.Nat.{_+_, _*_, _<_, _^_, _≤_};
 ghost use lib.Ieee.{binary64, ofBits};
 ghost use Rattle.number.specs.Root.{roundRoot, sqrtOf};
-ghost use Rattle.number.specs.Search.{Found, triedOf};
-ghost use Rattle.number.specs.Steps.{rootDigits, unitsOf};
+ghost use Rattle.number.specs.Search.{After, Found, Tried};
+ghost use Rattle.number.specs.Steps.Magnitude.{unitsOf};
+ghost use Rattle.number.specs.Steps.Root.{rootDigits};
 use crate::nearest;
 use crate::normalised;
 
@@ -26,10 +27,21 @@ struct PartialRoot {
 }
 
 impl PartialRoot {
+    // The first bit of the root of number * 2 ^ 53 is 2 ^ 53.
+    fn first(number: u64) -> PartialRoot
+        requires { ⌜ (2 ^ 53 ≤ number) × (number < 2 ^ 55) ⌝ }
+        ensures { λ r. ⌜ After (number * 2 ^ 53) (2 ^ 53) r ⌝ }
+    {
+        PartialRoot {
+            trial: 0x00a0_0000_0000_0000,
+            left: 4 * (number - 0x0020_0000_0000_0000),
+        }
+    }
+
     // The next bit, half of the one just tried: it is kept if what is left reaches the trial.
     fn tried(self, bit: u64) -> PartialRoot
         requires { ⌜ (bit ≤ 2 * self .trial) × (self .trial + 2 * bit < 2 ^ 63) × (self .left < 2 ^ 63) ⌝ }
-        ensures { λ r. ⌜ r ≡ triedOf self bit ⌝ }
+        ensures { λ r. ⌜ Tried self bit r ⌝ }
     {
         let trial = self.trial;
         let left = self.left;
@@ -51,14 +63,15 @@ struct WholeRoot {
     rest: u64,
 }
 
-// The root of number * 2 ^ 53, whose first bit is 2 ^ 53, and then a bit at a time. Where nothing is left the bits to come are zeros.
+// The root of number * 2 ^ 53, the first bit and then a bit at a time. Where nothing is left the bits to come are zeros.
 fn search(number: u64) -> WholeRoot
     requires { ⌜ (2 ^ 53 ≤ number) × (number < 2 ^ 55) ⌝ }
     ensures { λ r. ⌜ Found (number * 2 ^ 53) r ⌝ }
 {
+    let first = PartialRoot::first(number);
     let mut bit: u64 = 0x0020_0000_0000_0000;
-    let mut trial: u64 = 0x00a0_0000_0000_0000;
-    let mut left: u64 = 4 * (number - 0x0020_0000_0000_0000);
+    let mut trial = first.trial;
+    let mut left = first.left;
     while 1 < bit {
         if left == 0 {
             return WholeRoot {

@@ -9,7 +9,7 @@ use lib.Bits.{bitAnd, and-mask}
 use lib.Count.{leadingZeros, leading-top}
 use lib.Pow.{pow-pos, pow-mono, pow-add, shl-lt}
 use lib.Ieee.{binary64}
-use Rattle.number.specs.Steps.{Normalised, fieldUnits}
+use Rattle.number.specs.Steps.Magnitude.{Normalised, fieldUnits}
 use Rattle.number.proofs.Fields.{normal}
 use Rattle.number.proofs.normalised.Statement.{statement}
 use Rattle.number.proofs.normalised.Tie as tie

@@ -9,7 +9,7 @@ use lib.Dec.{T, leb, leb→le, nleb→lt}
 use lib.Ieee.{Float, binary32, binary64, fits, toBits, ofBits, nanBits}
 use lib.Ieee.Bits.{ofBits-toBits, toBits-lt}
 use Rattle.number.specs.Format.{narrowOf}
-use Rattle.number.specs.Steps.{Narrowed}
+use Rattle.number.specs.Steps.Magnitude.{Narrowed}
 use Rattle.number.proofs.Nan.{is-nan, not-nan, number, zero-by-zero-32}
 use Rattle.number.proofs.Narrowing.{narrow-nan}
 use Rattle.number.proofs.Patterns.{number-pattern}

@@ -4,7 +4,7 @@ use mathlib.Core.Path.{sym, subst}
 use Prim.Native.Nat.{ℕ, _+_, _-_, _*_, _%_, _^_}
 use native.Mathlib.Omega.{arith}
 use borrow.Author.Needs.{needs}
-use Rattle.number.specs.Steps.{Narrowed}
+use Rattle.number.specs.Steps.Magnitude.{Narrowed}
 use Rattle.number.proofs.Narrowing.{narrow-zero, narrow-too-large, narrow-normal, narrow-nothing, narrow-subnormal}
 use Rattle.number.proofs.format.narrow_bits.Statement.{statement}
 use Rattle.number.proofs.format.narrow_bits.Tie as tie

@@ -1,5 +1,5 @@
 -- `number::order::lower` meets its contract by its test. Assumes nothing.
-use mathlib.Core.Path.{_≡_, sym, ap}
+use mathlib.Core.Path.{sym, ap}
 use mathlib.Core.Bool.{Bool, cond}
 use Rattle.number.proofs.order.lower.Statement.{statement}
 use Rattle.number.proofs.order.lower.Tie as tie

@@ -2,7 +2,7 @@
 use native.Mathlib.Omega.{arith}
 use borrow.Author.Needs.{needs}
 use lib.Ieee.{binary64}
-use Rattle.number.specs.Steps.{unitsOf}
+use Rattle.number.specs.Steps.Magnitude.{unitsOf}
 use Rattle.number.proofs.RootBits.{rounded-hi, joined}
 use Rattle.number.proofs.root.root_bits.Statement.{statement}
 use Rattle.number.proofs.root.root_bits.Tie as tie

@@ -10,7 +10,7 @@ use lib.Ieee.{Float, nan, inf, binary64, isNan, fits, toBits}
 use lib.Ieee.Bits.{nanBits-is}
 use lib.Ieee.Exact.{HasValue}
 use Rattle.number.specs.Root.{roundRoot, sqrtOf}
-use Rattle.number.specs.Steps.{unitsOf}
+use Rattle.number.specs.Steps.Magnitude.{unitsOf}
 use Rattle.number.proofs.Fields.{units-pos}
 use Rattle.number.proofs.Nan.{is-nan, not-nan, number, zero-by-zero}
 use Rattle.number.proofs.Reading.{mag, sign, infinite, value, sign-clear, sign-set}

@@ -1,5 +1,5 @@
--- `number::root::PartialRoot::tried` meets its contract: the difference, which may wrap, has no top bit where what is left reaches the trial.
--- Assumes nothing.
+-- `number::root::PartialRoot::tried` meets its contract: the difference, which may wrap, has no top bit where what is left reaches the trial; and such a step
+-- keeps what holds after a bit. Assumes nothing.
 use mathlib.Core.Path.{_≡_, refl, sym, ap, _∙_, subst}
 use mathlib.Core.Bool.{Bool, true, false, not, cond}
 use Prim.Native.Nat.{ℕ, zero, suc, _+_, _-_, _*_, _/_, _%_, _^_, _≤_, _<_}
@@ -8,8 +8,9 @@ use native.Mathlib.Nat.{div-add-mod', zero-mul, one-mul, mul-le-mul-right}
 use native.Mathlib.Omega.{arith}
 use borrow.Author.Needs.{needs}
 use lib.Dec.{T, leb, leb→le, nleb→lt, ltb, ltb→lt, nltb→le}
-use Rattle.number.specs.Search.{triedOf}
+use Rattle.number.specs.Search.{After}
 use Rattle.number.specs.declared.root.PartialRoot.{PartialRoot}
+use Rattle.number.proofs.Search.{next}
 use Rattle.number.proofs.root.PartialRoot.tried.Statement.{statement}
 use Rattle.number.proofs.root.PartialRoot.tried.Tie as tie
 
@@ -36,15 +37,14 @@ module _ (h left t d : ℕ) (T' : t < h) (L : left < h) (D : d < 2 * h) (e : (d 
   borrowed : left < t → h ≤ d
   borrowed g = ⊎-elim (λ (f : d + t ≡ left). absurd (omega arith)) (λ (f : d + t ≡ 2 * h + left). omega arith) (wrapped (2 * h) (d + t) left (omega arith) e)
 
-  -- the two candidates, by either test
-  chosen : (bit : ℕ) → _≡_ {A = PartialRoot}
-      (record { trial = cond (ltb d h) (t - bit / 2 + 2 * bit) (t - bit / 2); left = 2 * cond (ltb d h) d left })
-      (triedOf (record { trial = t; left = left }) bit)
-  chosen bit = go (ltb d h) (leb t left) (ltb→lt d h) (nltb→le d h) (leb→le t left) (nleb→lt t left)
+  -- of two candidates the same, by either test
+  chosen : (kept refused : ℕ) → _≡_ {A = PartialRoot} (record { trial = cond (ltb d h) kept refused; left = 2 * cond (ltb d h) d left })
+      (cond (leb t left) (record { trial = kept; left = 2 * (left - t) }) (record { trial = refused; left = 2 * left }))
+  chosen kept refused = go (ltb d h) (leb t left) (ltb→lt d h) (nltb→le d h) (leb→le t left) (nleb→lt t left)
     where
       go : (z w : Bool) → (T z → d < h) → (T (not z) → h ≤ d) → (T w → t ≤ left) → (T (not w) → left < t)
-          → _≡_ {A = PartialRoot} (record { trial = cond z (t - bit / 2 + 2 * bit) (t - bit / 2); left = 2 * cond z d left })
-          (cond w (record { trial = t - bit / 2 + 2 * bit; left = 2 * (left - t) }) (record { trial = t - bit / 2; left = 2 * left }))
+          → _≡_ {A = PartialRoot} (record { trial = cond z kept refused; left = 2 * cond z d left })
+          (cond w (record { trial = kept; left = 2 * (left - t) }) (record { trial = refused; left = 2 * left }))
       go true true a b l g = same _ _ _ _ refl (ap (λ (i : ℕ). 2 * i) (difference (l tt)))
       go true false a b l g = absurd (let x = a tt in let y = borrowed (g tt) in omega arith)
       go false true a b l g = absurd (let x = b tt in let y = difference (l tt) in omega arith)
@@ -89,8 +89,9 @@ returns c =
     let a = b .before .args in
     let p = b .before .pre in
     let d = b .wrapping-sub-u64 in
-    same _ _ _ _ (c .before .either .ensures) (ap (λ (i : ℕ). 2 * i) (c .either2 .ensures))
-    ∙ chosen (2 ^ 63) (a .self .left) (a .self .trial) (d .result) (omega (arith, p .1)) (p .2) (search needs) (d .ensures) (a .bit)
+    let e = same _ _ _ _ (c .before .either .ensures) (ap (λ (i : ℕ). 2 * i) (c .either2 .ensures))
+    ∙ chosen (2 ^ 63) (a .self .left) (a .self .trial) (d .result) (omega (arith, p .1)) (p .2) (search needs) (d .ensures) _ _ in
+    record { is = e; next = λ n h s. subst (After n (a .bit / 2)) (sym e) (next n (a .bit) (a .self) h s) }
 
 pub tried-spec : {M : Type 1} → statement M
 tried-spec =
