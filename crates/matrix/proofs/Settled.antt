@@ -5,7 +5,8 @@ use Prim.Native.Nat.{ℕ}
 use lib.Dec.{T}
 use lib.Ieee.{Float, binary64}
 use Rattle.number.specs.Arithmetic.{_⊗_, lowerOf, upperOf, minOf, maxOf}
-use Rattle.number.proofs.Zeros.{Near, equal, factors, near-nonzero, near-min, near-max, near-add}
+use Rattle.number.proofs.NearZeros.{Near, equal, near-nonzero, near-min, near-max, near-add}
+use Rattle.number.proofs.Nonzero.{factors}
 use Rattle.matrix.specs.declared.vec.Vec3d.{Vec3d}
 use Rattle.matrix.specs.declared.matrix.Mat4d.{Mat4d}
 use Rattle.matrix.specs.declared.range.Range3d.{Range3d}

@@ -8,9 +8,7 @@ use native.Mathlib.Omega.{arith}
 use lib.IntN.{ℤ, pos, negsuc}
 use lib.Dec.{T, eqb, eqb→eq, eqb-refl}
 use lib.Pow.{pow-pos}
-use lib.Bits.{bitAnd, bitOr, and-self, or-self}
-use lib.Ieee.{Float, nan, inf, fin, binary64, up, down, lt, eq, le, level, isNan, fits, toBits, ofBits, nanBits}
-use lib.Ieee.Bits.{ofBits-toBits, nanBits-is}
+use lib.Ieee.{Float, nan, inf, fin, binary64, up, down, lt, eq, le, level, isNan, fits}
 use lib.Ieee.Fits.{up-pos, down-pos, and-i, and-l, and-r}
 use Rattle.number.specs.Arithmetic.{negative, zeroOf, upperOf, precedes, minOf, maxOf}
 use Rattle.number.specs.Extremes.{Value, ZeroRule}
@@ -68,7 +66,7 @@ is-zero s zero e v h = ap (fin s zero) (zero-exponent s e v)
 is-zero s (suc m) e v h = absurd (omega arith)
 
 -- the same value, or two zeros
-data Alike : Float → Float → Type 0 where
+pub data Alike : Float → Float → Type 0 where
   same : {x y : Float} → x ≡ y → Alike x y
   zeros : {x y : Float} (s t : Bool) → x ≡ zeroOf s → y ≡ zeroOf t → Alike x y
 
@@ -78,7 +76,7 @@ same-sign true false h = absurd h
 same-sign false true h = absurd h
 same-sign false false h = refl
 
-alike : (x y : Float) → Value x → Value y → T (eq x y) → Alike x y
+pub alike : (x y : Float) → Value x → Value y → T (eq x y) → Alike x y
 unfolding eq isNan
 alike nan y v w h = absurd h
 alike (inf s) nan v w h = absurd h
@@ -114,57 +112,11 @@ equal-numbers (fin s m e) nan h = absurd (subst T (sym h) tt)
 equal-numbers (fin s m e) (inf t) h = (refl, refl)
 equal-numbers (fin s m e) (fin t n d) h = (refl, refl)
 
-itself : (b c : Bool) (x : Float) → x ≡ cond b x (cond c x x)
-itself true c x = refl
-itself false true x = refl
-itself false false x = refl
-
--- ---- their bits, joined
-
-module _ (join : ℕ → ℕ → ℕ) (self : (a : ℕ) → join a a ≡ a) (pick : Float → Float → Float) (own : (x : Float) → pick x x ≡ x)
-    (zero-join : (s t : Bool) → ofBits binary64 (join (toBits binary64 (zeroOf s)) (toBits binary64 (zeroOf t))) ≡ pick (zeroOf s) (zeroOf t))
-    (number : (x y : Float) → isNan x ≡ false → isNan y ≡ false → isNan (pick x y) ≡ false)
-    (x y : Float) (v : Value x) (w : Value y) (h : eq x y ≡ true) where
-  joined : ofBits binary64 (join (toBits binary64 x) (toBits binary64 y)) ≡ pick x y
-  joined = by (alike x y v w (subst T (sym h) tt))
-    where
-      by : Alike x y → ofBits binary64 (join (toBits binary64 x) (toBits binary64 y)) ≡ pick x y
-      by (same e) =
-          subst (λ (z : Float). ofBits binary64 (join (toBits binary64 x) (toBits binary64 z)) ≡ pick x z) e
-          (ap (ofBits binary64) (self (toBits binary64 x)) ∙ ofBits-toBits binary64 x v ∙ sym (own x))
-      by (zeros s t p q) = rw (p, q) (zero-join s t)
-
-  joined-number : T (not (nanBits binary64 (join (toBits binary64 x) (toBits binary64 y))))
-  joined-number =
-      let n = equal-numbers x y h in
-      subst (λ (b : Bool). T (not b)) (sym (nanBits-is binary64 _ ∙ ap isNan joined ∙ number x y (n .0) (n .1))) tt
-
-or-zeros : (s t : Bool) → ofBits binary64 (bitOr (toBits binary64 (zeroOf s)) (toBits binary64 (zeroOf t))) ≡ minOf (zeroOf s) (zeroOf t)
-unfolding ofBits toBits minOf isNan lt eq
-or-zeros true true = refl
-or-zeros true false = refl
-or-zeros false true = refl
-or-zeros false false = refl
-
-and-zeros : (s t : Bool) → ofBits binary64 (bitAnd (toBits binary64 (zeroOf s)) (toBits binary64 (zeroOf t))) ≡ maxOf (zeroOf s) (zeroOf t)
-unfolding ofBits toBits maxOf isNan lt eq
-and-zeros true true = refl
-and-zeros true false = refl
-and-zeros false true = refl
-and-zeros false false = refl
-
+-- what is chosen of two that are no NaN is none
 one-of : (b c : Bool) (x y : Float) → isNan x ≡ false → isNan y ≡ false → isNan (cond b y (cond c y x)) ≡ false
 one-of true c x y p q = q
 one-of false true x y p q = q
 one-of false false x y p q = p
-
-min-own : (x : Float) → minOf x x ≡ x
-unfolding minOf
-min-own x = sym (itself (isNan x) (precedes x x) x)
-
-max-own : (x : Float) → maxOf x x ≡ x
-unfolding maxOf
-max-own x = sym (itself (isNan x) (precedes x x) x)
 
 pub min-number : (x y : Float) → isNan x ≡ false → isNan y ≡ false → isNan (minOf x y) ≡ false
 unfolding minOf
@@ -173,19 +125,6 @@ min-number x y = one-of (isNan x) (precedes y x) x y
 pub max-number : (x y : Float) → isNan x ≡ false → isNan y ≡ false → isNan (maxOf x y) ≡ false
 unfolding maxOf
 max-number x y = one-of (isNan x) (precedes x y) x y
-
-module _ (x y : Float) (v : Value x) (w : Value y) (h : eq x y ≡ true) where
-  pub min-joined : ofBits binary64 (bitOr (toBits binary64 x) (toBits binary64 y)) ≡ minOf x y
-  min-joined = joined bitOr or-self minOf min-own or-zeros min-number x y v w h
-
-  pub min-joined-number : T (not (nanBits binary64 (bitOr (toBits binary64 x) (toBits binary64 y))))
-  min-joined-number = joined-number bitOr or-self minOf min-own or-zeros min-number x y v w h
-
-  pub max-joined : ofBits binary64 (bitAnd (toBits binary64 x) (toBits binary64 y)) ≡ maxOf x y
-  max-joined = joined bitAnd and-self maxOf max-own and-zeros max-number x y v w h
-
-  pub max-joined-number : T (not (nanBits binary64 (bitAnd (toBits binary64 x) (toBits binary64 y))))
-  max-joined-number = joined-number bitAnd and-self maxOf max-own and-zeros max-number x y v w h
 
 -- ---- numbers that are not equal
 

@@ -15,7 +15,7 @@ use lib.Ieee.Exact.{HasValue, round-exact}
 use lib.Ieee.Fits.{down-pos, round-fits, nan-fits, inf-fits}
 use lib.Ieee.Scale.{round-same}
 use Rattle.number.specs.Format.{narrowOf}
-use Rattle.number.proofs.NearestRoot.{fits-facts, in-units}
+use Rattle.number.proofs.Spacing.{fits-facts, in-units}
 use Rattle.number.proofs.Pack.{value-bits}
 
 -- Two values of a format that have one sign and one size have the same bits, so they are the same.

@@ -3,9 +3,12 @@ pub mod Nan
 pub mod Tests
 pub mod Magnitude
 pub mod Extremes
+pub mod JoinedBits
 pub mod Places
 pub mod EitherOrder
 pub mod Zeros
+pub mod Nonzero
+pub mod NearZeros
 pub mod Pack
 pub mod Rounding
 pub mod Fields
@@ -14,6 +17,8 @@ pub mod WholeRoot
 pub mod RootRounding
 pub mod RootBits
 pub mod Search
+pub mod Spacing
+pub mod RootMiddles
 pub mod NearestRoot
 pub mod SquareRoot
 pub mod Stores

@@ -13,7 +13,7 @@ use lib.Ieee.{Float, nan, inf, fin, Format, low, emax, up, down, below, level, l
 use lib.Ieee.Fits.{down-pos}
 use Rattle.number.specs.Arithmetic.{negative, precedes}
 use Rattle.number.proofs.Formats.{value-unique, bound}
-use Rattle.number.proofs.NearestRoot.{fits-facts, in-units}
+use Rattle.number.proofs.Spacing.{fits-facts, in-units}
 
 -- ---- tests of natural numbers
 

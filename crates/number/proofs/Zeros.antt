@@ -1,26 +1,24 @@
--- Where the sign of a zero can be left open: a product that is neither a zero nor a NaN has no such factor, a choice by one comparison is right but for two
--- zeros and a NaN, and a sum that is neither a zero nor a NaN does not see which zeros were added. And a sum is -0 just where both its numbers are.
--- The idea: a zero added to another number leaves its fraction as it is, whatever the zero's sign; and a sum of two values is a whole number of the
--- format's smallest value, so that only 0 is rounded to a zero. Assumes nothing.
+-- Zeros that are rounded to and added: of two zeros the sum is -0 just where both are, a zero added to another number leaves its fraction as it is, whatever the
+-- zero's sign, and a sum of two values is -0 just where both are. The idea: a sum of two values is a whole number of the format's smallest value, so that only 0
+-- is rounded to a zero. Assumes nothing.
 use mathlib.Core.Path.{_≡_, refl, sym, ap, _∙_, subst}
-use mathlib.Core.Bool.{Bool, true, false, not, cond, _&&_, _||_, Bool·beq}
+use mathlib.Core.Bool.{Bool, true, false, cond, _&&_, Bool·beq}
 use Prim.Native.Nat.{ℕ, zero, suc, _+_, _-_, _*_, _^_, _≤_, _<_}
 use native.Mathlib.Nat.{mul-pos, zero-lt-suc, mul-comm, mul-sub}
 use native.Mathlib.Omega.{arith}
 use borrow.Author.Tests.{ltb-true, lt-ltb, le-ltb}
 use lib.IntN.{ℤ, pos}
 use lib.Count.{trailingZeros}
-use lib.Dec.{T, ltb, eqb, eqb→eq}
+use lib.Dec.{T, ltb}
 use lib.Pow.{pow-pos}
-use lib.Ieee.{Float, nan, inf, fin, Format, binary32, binary64, low, prec, emax, up, down, unlike, below}
-use lib.Ieee.{lt, eq, le, add, sum, mul, isNan, round, units, odd, size, span, climb}
-use lib.Ieee.Fits.{up-pos, down-pos, and-l, and-r, round-is}
+use lib.Ieee.{Float, nan, inf, fin, Format, binary32, binary64, low, prec, emax, up, down}
+use lib.Ieee.{lt, eq, le, add, sum, isNan, round, units, odd, size, span, climb}
+use lib.Ieee.Fits.{up-pos, down-pos, round-is}
 use lib.Ieee.Order.{round-mono}
 use lib.Ieee.Scale.{round-same}
-use Rattle.number.specs.Arithmetic.{_⊕_, _⊗_, negative, zeroOf, nonzero, lowerOf, upperOf, minOf, maxOf}
+use Rattle.number.specs.Arithmetic.{_⊕_, negative, zeroOf}
 use Rattle.number.specs.Extremes.{Value, NegativeZeroSum}
 use Rattle.number.proofs.Extremes.{no-digits, is-zero}
-use Rattle.number.proofs.Nan.{nan-is}
 use Rattle.number.proofs.Places.{place, over, under}
 
 -- ---- rounding to a zero
@@ -35,142 +33,7 @@ zero-rounded binary64 false = refl
 pub round-zero : (f : Format) (s : Bool) (n c : ℕ) → 0 < c → n ≡ 0 → round f s n c ≡ zeroOf s
 round-zero f s n c C e = round-same f s n c 0 1 C (zero-lt-suc 0) (omega arith) ∙ zero-rounded f s
 
--- ---- neither a zero nor a NaN
-
-zero-is-none : (s : Bool) (m : ℕ) (e : ℤ) → m ≡ 0 → nonzero (fin s m e) ≡ false
-unfolding lt
-zero-is-none s m e h = go s (m * up e * 1) (0 * 1 * down e) (0 * 1 * down e) (m * up e * 1) (rw h (omega arith)) (omega arith) (omega arith) (rw h (omega arith))
-  where
-    go : (s : Bool) (a b c d : ℕ) → a ≡ 0 → b ≡ 0 → c ≡ 0 → d ≡ 0 → (below s a false b || below false c s d) ≡ false
-    go true a b c d p q r t = rw (le-ltb 0 (a + b) (omega arith))
-    go false a b c d p q r t = rw (le-ltb a b (omega arith), le-ltb c d (omega arith))
-
-other-is-one : (s : Bool) (m : ℕ) (e : ℤ) → T (nonzero (fin s (suc m) e))
-unfolding lt
-other-is-one s m e = subst T (sym (go s (suc m * up e * 1) (0 * 1 * down e) (0 * 1 * down e) (suc m * up e * 1) (some m (up e) (up-pos e)) (omega arith))) tt
-  where
-    some : (m u : ℕ) → 0 < u → 0 < suc m * u * 1
-    some m u U = mul-pos (mul-pos (zero-lt-suc m) U) (zero-lt-suc 0)
-
-    go : (s : Bool) (a b c d : ℕ) → 0 < a → c ≡ 0 → (below s a false b || below false c s a) ≡ true
-    go true a b c d p q = rw (lt-ltb 0 (a + b) (omega arith))
-    go false a b c d p q = rw (lt-ltb c a (omega arith)) (all (ltb a b))
-      where
-        all : (t : Bool) → (t || true) ≡ true
-        all true = refl
-        all false = refl
-
-no-zero : (s : Bool) (m : ℕ) (e : ℤ) → m ≡ 0 → T (nonzero (fin s m e)) → ⊥
-no-zero s m e h t = subst T (zero-is-none s m e h) t
-
-no-nan : T (nonzero nan) → ⊥
-unfolding lt
-no-nan t = t
-
-infinite-is-one : (s : Bool) → T (nonzero (inf s))
-unfolding lt
-infinite-is-one true = tt
-infinite-is-one false = tt
-
-no-rounded-zero : (s : Bool) (n c : ℕ) → 0 < c → n ≡ 0 → T (nonzero (round binary64 s n c)) → ⊥
-no-rounded-zero s n c C e t = no-zero s 0 (pos 0) refl (subst (λ (x : Float). T (nonzero x)) (round-zero binary64 s n c C e) t)
-
--- ---- a product
-
-pub factors : (x y : Float) → T (nonzero (x ⊗ y)) → T (nonzero x) × T (nonzero y)
-unfolding mul
-factors nan y t = absurd (no-nan t)
-factors (inf s) nan t = absurd (no-nan t)
-factors (inf s) (inf r) t = (infinite-is-one s, infinite-is-one r)
-factors (inf s) (fin r zero d) t = absurd (no-nan t)
-factors (inf s) (fin r (suc n) d) t = (infinite-is-one s, other-is-one r n d)
-factors (fin s m e) nan t = absurd (no-nan t)
-factors (fin s zero e) (inf r) t = absurd (no-nan t)
-factors (fin s (suc m) e) (inf r) t = (other-is-one s m e, infinite-is-one r)
-factors (fin s zero e) (fin r n d) t = absurd (no-rounded-zero (unlike s r) (0 * up e * (n * up d)) (down e * down d) (mul-pos (down-pos e) (down-pos d)) (omega arith) t)
-factors (fin s (suc m) e) (fin r zero d) t =
-    absurd (no-rounded-zero (unlike s r) (suc m * up e * (0 * up d)) (down e * down d) (mul-pos (down-pos e) (down-pos d)) (none (suc m * up e) (up d)) t)
-  where
-    none : (k u : ℕ) → k * (0 * u) ≡ 0
-    none k u = omega arith
-factors (fin s (suc m) e) (fin r (suc n) d) t = (other-is-one s m e, other-is-one r n d)
-
--- ---- the same but for the sign of a zero, unless the first is a NaN
-
-pub data Near : Float → Float → Type 0 where
-  equal : {x y : Float} → x ≡ y → Near x y
-  zeros : {x y : Float} (s t : Bool) (e d : ℤ) → x ≡ fin s zero e → y ≡ fin t zero d → Near x y
-  nothing : {x y : Float} → x ≡ nan → Near x y
-
-pub near-nonzero : {x y : Float} → Near x y → T (nonzero x) → x ≡ y
-near-nonzero (equal p) t = p
-near-nonzero (zeros s r e d p q) t = absurd (no-zero s 0 e refl (subst (λ (z : Float). T (nonzero z)) p t))
-near-nonzero (nothing p) t = absurd (no-nan (subst (λ (z : Float). T (nonzero z)) p t))
-
--- a choice by one comparison
-
-below-nan : (y : Float) → lt y nan ≡ false
-unfolding lt
-below-nan nan = refl
-below-nan (inf s) = refl
-below-nan (fin s m e) = refl
-
-above-nan : (y : Float) → lt nan y ≡ false
-unfolding lt
-above-nan y = refl
-
--- two equal numbers of which only the first is negative are zeros
-split : (x y : Float) → T (negative x && not (negative y) && eq x y) → Near x y × Near y x
-unfolding eq
-split nan y t = absurd t
-split (inf true) nan t = absurd t
-split (inf true) (inf true) t = absurd t
-split (inf true) (inf false) t = absurd t
-split (inf false) y t = absurd t
-split (inf true) (fin true n d) t = absurd t
-split (inf true) (fin false n d) t = absurd t
-split (fin true m e) nan t = absurd t
-split (fin true m e) (inf true) t = absurd t
-split (fin true m e) (inf false) t = absurd t
-split (fin false m e) y t = absurd t
-split (fin true m e) (fin true n d) t = absurd t
-split (fin true m e) (fin false n d) t =
-    let k = m * up e * down d in
-    let l = n * up d * down e in
-    let z = eqb→eq k 0 (and-r (eqb k l) (eqb k 0) t) in
-    let w = eqb→eq k l (and-l (eqb k l) (eqb k 0) t) in
-    let p = ap (λ (i : ℕ). fin true i e) (no-digits m (up e) (down d) (up-pos e) (down-pos d) z) in
-    let q = ap (λ (i : ℕ). fin false i d) (no-digits n (up d) (down e) (up-pos d) (down-pos e) (sym w ∙ z)) in
-    (zeros true false e d p q, zeros false true d e q p)
-
-chosen : (x y : Float) (n b c : Bool) → isNan x ≡ n → (n ≡ true → b ≡ false) → (T c → Near x y) → Near (cond b y x) (cond n y (cond (b || c) y x))
-unfolding isNan
-chosen nan y n true c p q r = absurd (subst T (q (sym p)) tt)
-chosen nan y n false c p q r = nothing refl
-chosen (inf s) y true b c p q r = absurd (subst T (sym p) tt)
-chosen (fin s m e) y true b c p q r = absurd (subst T (sym p) tt)
-chosen (inf s) y false true c p q r = equal refl
-chosen (fin s m e) y false true c p q r = equal refl
-chosen (inf s) y false false true p q r = r tt
-chosen (inf s) y false false false p q r = equal refl
-chosen (fin s m e) y false false true p q r = r tt
-chosen (fin s m e) y false false false p q r = equal refl
-
-pub near-min : (x y : Float) → Near (lowerOf x y) (minOf x y)
-unfolding minOf
-near-min x y = chosen x y (isNan x) (lt y x) (negative y && not (negative x) && eq y x) refl (λ p. rw (nan-is x p) (below-nan y)) (λ t. split y x t .1)
-
-pub near-max : (x y : Float) → Near (upperOf x y) (maxOf x y)
-unfolding maxOf
-near-max x y = chosen x y (isNan x) (lt x y) (negative x && not (negative y) && eq x y) refl (λ p. rw (nan-is x p) (above-nan y)) (λ t. split x y t .0)
-
--- ---- a sum
-
-add-nan : (f : Format) (x : Float) → add f x nan ≡ nan
-unfolding add
-add-nan f nan = refl
-add-nan f (inf s) = refl
-add-nan f (fin s m e) = refl
+-- ---- a sum with a zero
 
 -- of two zeros, by the fractions that the kit adds
 zero-sum : (f : Format) (s t : Bool) (a b c : ℕ) → 0 < c → a ≡ 0 → b ≡ 0 → sum f s a t b c ≡ zeroOf (s && t)
@@ -205,7 +68,7 @@ module _ (f : Format) (s : Bool) (k e c a b : ℕ) (E : 0 < e) (C : 0 < c) (A : 
       go false true p = rw (lt-ltb b a (omega arith), ← p) (kept (a - b) (omega arith))
       go true false p = rw (lt-ltb b a (omega arith), ← p) (kept (a - b) (omega arith))
 
-number-after : (f : Format) (s t : Bool) (m : ℕ) (e d : ℤ) → add f (fin t zero d) (fin s (suc m) e) ≡ round f s (suc m * up e) (down e)
+pub number-after : (f : Format) (s t : Bool) (m : ℕ) (e d : ℤ) → add f (fin t zero d) (fin s (suc m) e) ≡ round f s (suc m * up e) (down e)
 unfolding add
 number-after f s t m e d =
     zero-before f s (suc m * up e) (down e) (down d * down e) (suc m * up e * down d) (0 * up d * down e) (down-pos e) (mul-pos (down-pos d) (down-pos e))
@@ -214,7 +77,7 @@ number-after f s t m e d =
     over : (k e d : ℕ) → k * d * e ≡ k * (d * e)
     over k e d = omega arith
 
-number-before : (f : Format) (s t : Bool) (m : ℕ) (e d : ℤ) → add f (fin s (suc m) e) (fin t zero d) ≡ round f s (suc m * up e) (down e)
+pub number-before : (f : Format) (s t : Bool) (m : ℕ) (e d : ℤ) → add f (fin s (suc m) e) (fin t zero d) ≡ round f s (suc m * up e) (down e)
 unfolding add
 number-before f s t m e d =
     zero-after f s (suc m * up e) (down e) (down e * down d) (suc m * up e * down d) (0 * up d * down e) (down-pos e) (mul-pos (down-pos e) (down-pos d))
@@ -223,34 +86,9 @@ number-before f s t m e d =
     over : (k e d : ℕ) → k * d * e ≡ k * (e * d)
     over k e d = omega arith
 
-both-zeros : (f : Format) (s t : Bool) (e d : ℤ) → add f (fin s zero e) (fin t zero d) ≡ zeroOf (s && t)
+pub both-zeros : (f : Format) (s t : Bool) (e d : ℤ) → add f (fin s zero e) (fin t zero d) ≡ zeroOf (s && t)
 unfolding add
 both-zeros f s t e d = zero-sum f s t (0 * up e * down d) (0 * up d * down e) (down e * down d) (mul-pos (down-pos e) (down-pos d)) (omega arith) (omega arith)
-
-zero-to : (f : Format) (x : Float) (s t : Bool) (e d : ℤ) → Near (add f x (fin s zero e)) (add f x (fin t zero d))
-unfolding add
-zero-to f nan s t e d = nothing refl
-zero-to f (inf r) s t e d = equal refl
-zero-to f (fin r zero i) s t e d = zeros (r && s) (r && t) (pos 0) (pos 0) (both-zeros f r s i e) (both-zeros f r t i d)
-zero-to f (fin r (suc m) i) s t e d = equal (number-before f r s m i e ∙ sym (number-before f r t m i d))
-
-to-zero : (f : Format) (y : Float) (s t : Bool) (e d : ℤ) → Near (add f (fin s zero e) y) (add f (fin t zero d) y)
-unfolding add
-to-zero f nan s t e d = nothing refl
-to-zero f (inf r) s t e d = equal refl
-to-zero f (fin r zero i) s t e d = zeros (s && r) (t && r) (pos 0) (pos 0) (both-zeros f s r e i) (both-zeros f t r d i)
-to-zero f (fin r (suc n) i) s t e d = equal (number-after f r s n i e ∙ sym (number-after f r t n i d))
-
-pub near-add : (f : Format) {x x' y y' : Float} → Near x x' → Near y y' → Near (add f x y) (add f x' y')
-unfolding add
-near-add f {x} {x'} {y} {y'} (nothing p) g = nothing {x = add f x y} (rw p)
-near-add f {x} {x'} {y} {y'} (equal p) (nothing q) = nothing (ap (add f x) q ∙ add-nan f x)
-near-add f {x} {x'} {y} {y'} (zeros s t e d p r) (nothing q) = nothing (ap (add f x) q ∙ add-nan f x)
-near-add f {x} {x'} {y} {y'} (equal p) (equal q) = equal (λ i. add f (p i) (q i))
-near-add f {x} {x'} {y} {y'} (equal p) (zeros s t e d q r) = rw (← p, q, r) (zero-to f x s t e d)
-near-add f {x} {x'} {y} {y'} (zeros s t e d p r) (equal q) = rw (p, r, ← q) (to-zero f y s t e d)
-near-add f {x} {x'} {y} {y'} (zeros s t e d p r) (zeros s' t' e' d' p' r') =
-    zeros {x = add f x y} {y = add f x' y'} (s && s') (t && t') (pos 0) (pos 0) (rw (p, p') (both-zeros f s s' e e')) (rw (r, r') (both-zeros f t t' d d'))
 
 -- ---- a sum that is -0
 

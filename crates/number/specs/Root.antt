@@ -2,6 +2,7 @@
 -- In units of its format's smallest value, 2 ^ -low, a number x is n units, and its root is the root of n * 2 ^ low units.
 use Prim.Native.Nat.{ℕ, zero, suc, _+_, _*_, _/_, _^_, _≤_, _<_}
 use mathlib.Core.Bool.{false, cond}
+use lib.IntN.{ℤ}
 use lib.Dec.{T, leb, ltb}
 use lib.Ieee.{Float, nan, inf, fin, Format, low, up, down, size, round, fits}
 use lib.Ieee.Exact.{HasValue}
@@ -40,3 +41,13 @@ pub record NearestRoot (f : Format) (s : ℕ) (y : Float) : Type 0 where
   pub value : HasValue y false units (2 ^ low f)
   pub above : (z : Float) (Z : ℕ) → T (fits f z) → HasValue z false Z (2 ^ low f) → units < Z → 4 * s ≤ (units + Z) * (units + Z)
   pub below : (z : Float) (Z : ℕ) → T (fits f z) → HasValue z false Z (2 ^ low f) → Z < units → (units + Z) * (units + Z) ≤ 4 * s
+
+-- x is so many of its format's smallest values, and no value of the format is nearer to its root than its square root is.
+pub record RootNearest (f : Format) (x : Float) : Type 0 where
+  pub units : ℕ
+  pub value : HasValue x false units (2 ^ low f)
+  pub nearest : NearestRoot f (units * 2 ^ low f) (sqrtOf f x)
+
+-- So it is of every finite value above zero, in every format.
+abbrev pub SqrtNearest : Type 0
+SqrtNearest = (f : Format) (m : ℕ) (e : ℤ) → T (fits f (fin false (suc m) e)) → RootNearest f (fin false (suc m) e)

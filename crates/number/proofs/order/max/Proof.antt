@@ -1,8 +1,9 @@
--- `number::order::max` meets its contract: `proofs.Extremes.antt` has the laws. Assumes nothing.
+-- `number::order::max` meets its contract: `proofs/Extremes.antt` and `proofs/JoinedBits.antt` have the laws. Assumes nothing.
 use mathlib.Core.Bool.{true, false}
 use borrow.Author.Needs.{needs}
 use Rattle.number.proofs.Nan.{number}
-use Rattle.number.proofs.Extremes.{equal-numbers, max-joined, max-joined-number, max-from}
+use Rattle.number.proofs.Extremes.{equal-numbers, max-from}
+use Rattle.number.proofs.JoinedBits.{max-joined, max-joined-number}
 use Rattle.number.proofs.order.max.Statement.{statement}
 use Rattle.number.proofs.order.max.Tie as tie
 

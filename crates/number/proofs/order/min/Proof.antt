@@ -1,8 +1,9 @@
--- `number::order::min` meets its contract: `proofs.Extremes.antt` has the laws. Assumes nothing.
+-- `number::order::min` meets its contract: `proofs/Extremes.antt` and `proofs/JoinedBits.antt` have the laws. Assumes nothing.
 use mathlib.Core.Bool.{true, false}
 use borrow.Author.Needs.{needs}
 use Rattle.number.proofs.Nan.{number}
-use Rattle.number.proofs.Extremes.{equal-numbers, min-joined, min-joined-number, min-from}
+use Rattle.number.proofs.Extremes.{equal-numbers, min-from}
+use Rattle.number.proofs.JoinedBits.{min-joined, min-joined-number}
 use Rattle.number.proofs.order.min.Statement.{statement}
 use Rattle.number.proofs.order.min.Tie as tie
 
