@@ -18,7 +18,9 @@ pub mod PlacedRanges
 -- points and segments
 pub mod Dot
 pub mod Distance
+pub mod Fractions
 pub mod Span
+pub mod RoundedSpan
 pub mod EveryPlane
 pub mod ExactPoints
 pub mod Segment

@@ -1,11 +1,11 @@
 -- The quotient of two whole floats, where it lies from 0 to 1, is their fraction rounded to a binary64, and two different
 -- fractions stay in strict order if the product of their denominators is below 2 ^ 52.
 -- The idea: such fractions differ by more than 2 ^ -52, and each of the two roundings errs by at most 2 ^ -53.
-use mathlib.Core.Path.{_≡_}
+use mathlib.Core.Path.{_≡_, sym, subst}
 use mathlib.Core.Logic.{_↔_}
 use Prim.Native.Nat.{ℕ, _+_, _-_, _*_, _/_, _^_, _≤_, _<_}
 use native.Mathlib.Nat.{add-zero, mul-one, zero-mul, one-mul, mul-comm, mul-pos, div-lt-iff-lt-mul}
-use native.Mathlib.Nat.{le-trans, le-of-eq, lt-of-le-of-lt, lt-of-not-le, not-le-of-lt}
+use native.Mathlib.Nat.{le-trans, le-of-eq, le-antisymm, lt-of-le-of-lt, lt-of-not-le, not-le-of-lt}
 use native.Mathlib.Nat.{mul-le-mul-right, mul-le-mul-left, mul-lt-mul-of-pos-right, le-of-mul-le-mul-right}
 use native.Mathlib.Omega.{arith}
 use mathlib.Core.Bool.{Bool, true, false, not}
@@ -112,6 +112,15 @@ module _ {a b c d : ℕ} (B : 0 < b) (D : 0 < d) (h : a ≤ b) (k : c ≤ d) whe
 
   strict : b * d < 2 ^ 52 → a * d < c * b → units a b < units c d
   strict w l = gap a b c d (units a b) (units c d) spacing (pow-pos 1022) w l (error a b B h .1) (error c d D k .0)
+
+-- a rounded fraction is that of every fraction of the same value
+pub frac-same : {y : Float} {a b c d : ℕ} → Frac y c d → 0 < b → a ≤ b → a * d ≡ c * b → Frac y a b
+frac-same {y} {a} {b} {c} {d} g B h e = record {
+  bottom = B;
+  proper = h;
+  is = subst (λ (i : ℕ). At y i 0 full)
+      (le-antisymm (order (g .bottom) B (g .proper) h (le-of-eq (sym e))) (order B (g .bottom) h (g .proper) (le-of-eq e))) (g .is);
+}
 
 -- two rounded fractions with small denominators compare as the fractions do
 module _ {x y : Float} {a b c d : ℕ} (g : Frac x a b) (h : Frac y c d) (w : b * d < 2 ^ 52) where

@@ -1,25 +1,24 @@
--- The span of a segment between two rounded fractions, and how a plane cuts it. A place of the segment is m / (u + m) of the way
--- from its first end to its second, and a plane at the exact distances D and D' from the ends keeps it if u * D + m * D' ≥ 0.
--- The idea: where the ends lie on different sides, the plane keeps the places up to, or from, the crossing |D| / (|D| + |D'|), which
--- is rounded; rounding keeps the order of such fractions, so that the cut span has the places of the span that the plane keeps.
+-- What planes leave of a segment, by whole numbers alone: the latest fraction at which it comes in against the earliest at which it goes out. Something is left
+-- just where some exact point of the closed segment satisfies every plane. No float occurs (of the kit's `Ieee.Fits` only the laws of `&&`).
+-- A place of the segment is m / (u + m) of the way from its first end to its second. A plane is known by its exact distances D and D' from the ends, and keeps the
+-- place if u * D + m * D' ≥ 0.
+-- The idea: where the ends lie on different sides, the plane keeps the places up to, or from, its crossing. So one induction over the planes, in which the span has
+-- just those places that the planes so far keep: when no plane is left any place of it will do, and a span whose start is past its end has none. Assumes nothing.
 use mathlib.Core.Path.{_≡_}
 use mathlib.Core.Logic.{_↔_}
-use mathlib.Core.Bool.{Bool, true, false, not, _||_}
-use Prim.Native.Nat.{ℕ, suc, _+_, _-_, _*_, _^_, _≤_, _<_}
-use native.Mathlib.Nat.{le-refl, lt-of-le-of-lt, mul-le-mul, not-le-of-lt}
+use mathlib.Core.Bool.{Bool, true, not, cond, _&&_, _||_, Bool·beq}
+use mathlib.Core.List.{List, [], _∷_}
+use Prim.Native.Nat.{ℕ, _+_, _-_, _*_, _≤_, _<_}
+use native.Mathlib.Nat.{le-refl, le-of-lt, not-le-of-lt}
 use native.Mathlib.Omega.{arith}
-use lib.Dec.{T, not-T, lit<, lit≤}
-use lib.IntN.{ℤ, pos, negsuc, negℤ, natAbs, _-ℤ_}
+use lib.Dec.{T, not-T, lit<, lit≤, ltb→lt, nltb→le}
+use lib.IntN.{ℤ, pos, negsuc}
+use lib.Ieee.Fits.{and-i, and-l, and-r}
 use lib.Signed.{nonNeg}
-use lib.Ieee.{Float, lt}
-use lib.Ieee.Positive.{through}
-use Rattle.number.specs.Arithmetic.{_⊘_, minOf, maxOf}
-use Rattle.number.specs.Grid.{signed}
-use Rattle.farmgrid.specs.Whole.{Whole}
-use Rattle.farmgrid.proofs.Integer.{hi, lo, of-self, of-pos, of-neg, of-minus, of-eq}
-use Rattle.farmgrid.proofs.Exact.{abs-signed}
-use Rattle.farmgrid.proofs.Quotient.{Frac, lt-frac, nlt-frac, min-frac, max-frac, zero-frac, one-frac, div-frac}
-use Rattle.verdict.specs.Frustum.{startCut, endCut}
+use Rattle.farmgrid.proofs.Integer.{by-test, hi, lo}
+use Rattle.farmgrid.proofs.Fractions.{Fraction, Proper, less, later, earlier, through, firstEnd, secondEnd, startBy, endBy}
+
+-- ---- places
 
 -- u * D + m * D' ≥ 0
 abbrev pub Keeps : ℤ → ℤ → ℕ → ℕ → Type 0
@@ -28,32 +27,6 @@ Keeps D D' u m = u * lo D + m * lo D' ≤ u * hi D + m * hi D'
 -- what two conditions on a place hold of
 abbrev pub Both : (ℕ → ℕ → Type 0) → (ℕ → ℕ → Type 0) → ℕ → ℕ → Type 0
 Both R K u m = R u m × K u m
-
--- the largest denominator of a crossing: 3 * 2 ^ 24
-abbrev pub largest : ℕ
-largest = 50_331_648
-
-room : {b d : ℕ} → b ≤ largest → d ≤ largest → b * d < 2 ^ 52
-room g h = lt-of-le-of-lt (mul-le-mul g h) (lit< tt)
-
--- x is a fraction, rounded; the places of the segment from it on, and those up to it
-pub record Rounded (x : Float) : Type 0 where
-  pub top : ℕ
-  pub bottom : ℕ
-  pub frac : Frac x top bottom
-  pub fits : bottom ≤ largest
-
-abbrev pub From : {x : Float} → Rounded x → ℕ → ℕ → Type 0
-From f u m = f .top * (u + m) ≤ m * f .bottom
-
-abbrev pub UpTo : {x : Float} → Rounded x → ℕ → ℕ → Type 0
-UpTo f u m = m * f .bottom ≤ f .top * (u + m)
-
--- R holds of the places from start to end
-pub record Span (start end : Float) (R : ℕ → ℕ → Type 0) : Type 0 where
-  pub first : Rounded start
-  pub last : Rounded end
-  pub places : (u m : ℕ) → R u m ↔ (From first u m × UpTo last u m)
 
 -- a place where R holds
 pub record Place (R : ℕ → ℕ → Type 0) : Type 0 where
@@ -65,101 +38,168 @@ pub record Place (R : ℕ → ℕ → Type 0) : Type 0 where
 pub place-map : {R R' : ℕ → ℕ → Type 0} → ((u m : ℕ) → R u m → R' u m) → Place R → Place R'
 place-map f w = record { u = w .u; m = w .m; some = w .some; holds = f (w .u) (w .m) (w .holds) }
 
+-- the places from a fraction on, and those up to it
+abbrev From : Fraction → ℕ → ℕ → Type 0
+From f u m = f .top * (u + m) ≤ m * f .bottom
+
+abbrev UpTo : Fraction → ℕ → ℕ → Type 0
+UpTo f u m = m * f .bottom ≤ f .top * (u + m)
+
+-- R holds of the places from start to end
+pub record Span (start end : Fraction) (R : ℕ → ℕ → Type 0) : Type 0 where
+  pub first : Proper start
+  pub last : Proper end
+  pub places : (u m : ℕ) → R u m ↔ (From start u m × UpTo end u m)
+
 -- the whole segment
-pub whole-span : {x y : Float} → Whole x (pos 0) → Whole y (pos 1) → Span x y (λ u m. Unit {0})
-whole-span g h = record {
-  first = record { top = 0; bottom = 1; frac = zero-frac (lit< tt) g; fits = lit≤ tt };
-  last = record { top = 1; bottom = 1; frac = one-frac (lit< tt) h; fits = lit≤ tt };
+pub whole-span : Span firstEnd secondEnd (λ u m. Unit {0})
+whole-span = record {
+  first = record { some = lit< tt; part = lit≤ tt };
+  last = record { some = lit< tt; part = lit≤ tt };
   places = λ u m. (λ t. (omega arith, omega arith), λ t. tt);
 }
 
 -- ---- a span has a place exactly where its start is not past its end
-module _ {start end : Float} {R : ℕ → ℕ → Type 0} (s : Span start end R) where
-  pub has-place : T (not (lt end start)) → Place R
+module _ {start end : Fraction} {R : ℕ → ℕ → Type 0} (s : Span start end R) where
+  pub has-place : T (not (less end start)) → Place R
   has-place t =
-      let f = s .first in
-      let l = s .last in
-      let e : f .bottom - f .top + f .top ≡ f .bottom = omega (arith, f .frac .proper) in
-      let h = nlt-frac (l .frac) (f .frac) (room (l .fits) (f .fits)) t in
+      let e : start .bottom - start .top + start .top ≡ start .bottom = omega (arith, s .first .part) in
+      let h = nltb→le (end .top * start .bottom) (start .top * end .bottom) t in
       record {
-        u = f .bottom - f .top;
-        m = f .top;
-        some = rw e (f .frac .bottom);
-        holds = s .places (f .bottom - f .top) (f .top) .1 (rw e (le-refl (f .top * f .bottom), h));
+        u = start .bottom - start .top;
+        m = start .top;
+        some = rw e (s .first .some);
+        holds = s .places (start .bottom - start .top) (start .top) .1 (rw e (le-refl (start .top * start .bottom), h));
       }
 
-  pub not-past : Place R → T (not (lt end start))
-  not-past w = not-T (lt end start) (λ t.
-      let f = s .first in
-      let l = s .last in
+  pub not-past : Place R → T (not (less end start))
+  not-past w = not-T (less end start) (λ t.
       let r = s .places (w .u) (w .m) .0 (w .holds) in
-      let h = lt-frac (l .frac) (f .frac) (room (l .fits) (f .fits)) .0 t in
-      not-le-of-lt h (through (f .top) (w .m) (l .top) (f .bottom) (w .u + w .m) (l .bottom) (w .some) (r .0) (r .1)))
+      let h = ltb→lt (end .top * start .bottom) (start .top * end .bottom) t in
+      not-le-of-lt h (through (start .top) (w .m) (end .top) (start .bottom) (w .u + w .m) (end .bottom) (w .some) (r .0) (r .1)))
 
--- ---- a cut at a rounded fraction takes the places away that lie beyond it
-module _ {start end at : Float} {R K : ℕ → ℕ → Type 0} (s : Span start end R) (q : Rounded at) where
-  cut-end : ((u m : ℕ) → K u m ↔ UpTo q u m) → Span start (minOf end at) (Both R K)
-  cut-end k =
-      let e = s .last in
-      min-frac (λ z. Span start z (Both R K)) (e .frac) (q .frac) (room (e .fits) (q .fits))
-      (λ l. record {
+-- ---- a cut at a fraction takes the places away that lie beyond it
+module _ {start end at : Fraction} {R K : ℕ → ℕ → Type 0} (s : Span start end R) (q : Proper at) where
+  cut-end : ((u m : ℕ) → K u m ↔ UpTo at u m) → Span start (earlier end at) (Both R K)
+  cut-end k = by-test (λ z. Span start (cond z at end) (Both R K)) (less at end)
+      (λ t. record {
         first = s .first;
         last = q;
         places = λ u m. (
           λ r. (s .places u m .0 (r .0) .0, k u m .0 (r .1)),
-          λ t. let h = through m (q .top) (e .top) (u + m) (q .bottom) (e .bottom) (q .frac .bottom) (t .1) l in
-              (s .places u m .1 (t .0, h), k u m .1 (t .1)),
+          λ i. let h = through m (at .top) (end .top) (u + m) (at .bottom) (end .bottom) (q .some) (i .1) (le-of-lt (ltb→lt (at .top * end .bottom) (end .top * at .bottom) t)) in
+              (s .places u m .1 (i .0, h), k u m .1 (i .1)),
         );
       })
-      (λ l. record {
+      (λ t. record {
         first = s .first;
-        last = e;
+        last = s .last;
         places = λ u m. (
           λ r. s .places u m .0 (r .0),
-          λ t. (s .places u m .1 t, k u m .1 (through m (e .top) (q .top) (u + m) (e .bottom) (q .bottom) (e .frac .bottom) (t .1) l)),
+          λ i. (s .places u m .1 i, k u m .1 (through m (end .top) (at .top) (u + m) (end .bottom) (at .bottom) (s .last .some) (i .1) (nltb→le (at .top * end .bottom) (end .top * at .bottom) t))),
         );
       })
 
-  cut-start : ((u m : ℕ) → K u m ↔ From q u m) → Span (maxOf start at) end (Both R K)
-  cut-start k =
-      let e = s .first in
-      max-frac (λ z. Span z end (Both R K)) (e .frac) (q .frac) (room (e .fits) (q .fits))
-      (λ l. record {
+  cut-start : ((u m : ℕ) → K u m ↔ From at u m) → Span (later start at) end (Both R K)
+  cut-start k = by-test (λ z. Span (cond z at start) end (Both R K)) (less start at)
+      (λ t. record {
         first = q;
         last = s .last;
         places = λ u m. (
           λ r. (k u m .0 (r .1), s .places u m .0 (r .0) .1),
-          λ t. let h = through (e .top) (q .top) m (e .bottom) (q .bottom) (u + m) (q .frac .bottom) l (t .0) in
-              (s .places u m .1 (h, t .1), k u m .1 (t .0)),
+          λ i. let h = through (start .top) (at .top) m (start .bottom) (at .bottom) (u + m) (q .some) (le-of-lt (ltb→lt (start .top * at .bottom) (at .top * start .bottom) t)) (i .0) in
+              (s .places u m .1 (h, i .1), k u m .1 (i .0)),
         );
       })
-      (λ l. record {
-        first = e;
+      (λ t. record {
+        first = s .first;
         last = s .last;
         places = λ u m. (
           λ r. s .places u m .0 (r .0),
-          λ t. (s .places u m .1 t, k u m .1 (through (q .top) (e .top) m (q .bottom) (e .bottom) (u + m) (e .frac .bottom) l (t .0))),
+          λ i. (s .places u m .1 i, k u m .1 (through (at .top) (start .top) m (at .bottom) (start .bottom) (u + m) (s .first .some) (nltb→le (start .top * at .bottom) (at .top * start .bottom) t) (i .0))),
         );
       })
 
--- ---- the cut by a plane, by the signs of the two distances: the crossing is the quotient of -D by D' - D
-abbrev crossed : {n r : Float} (s : Bool) (x y : ℕ) {D : ℤ} → 0 < y → x ≤ y → Whole n (signed s x) → D ≡ signed s y
-    → Whole r D → natAbs D ≤ largest → Rounded (n ⊘ r)
-crossed s x y Y h g e w l =
-    record { top = x; bottom = y; frac = div-frac s x y Y h g (rw (← e) w); fits = rw (← (abs-signed s y), ← e) l }
-
-pub cut : {start end n r : Float} {R : ℕ → ℕ → Type 0} (D D' : ℤ) → Whole n (negℤ D) → Whole r (D' -ℤ D) → natAbs (D' -ℤ D) ≤ largest
-    → T (nonNeg D || nonNeg D') → Span start end R
-    → Span (startCut (nonNeg D) (nonNeg D') start (n ⊘ r)) (endCut (nonNeg D) (nonNeg D') end (n ⊘ r)) (Both R (Keeps D D'))
-cut (pos x) (pos y) g h l t s = record {
+-- what a plane leaves of a span that has an end on its positive side
+pub cut : {start end : Fraction} {R : ℕ → ℕ → Type 0} (D D' : ℤ) → T (nonNeg D || nonNeg D') → Span start end R
+    → Span (startBy D D' start) (endBy D D' end) (Both R (Keeps D D'))
+cut (pos x) (pos y) t s = record {
   first = s .first;
   last = s .last;
-  places = λ u m. (λ r. s .places u m .0 (r .0), λ t. (s .places u m .1 t, omega arith));
+  places = λ u m. (λ r. s .places u m .0 (r .0), λ i. (s .places u m .1 i, omega arith));
 }
-cut (pos x) (negsuc y) g h l t s =
-    let e = of-eq (of-minus (of-self (negsuc y)) (of-pos x)) (of-neg (of-pos (x + suc y))) (omega arith) in
-    cut-end s (crossed true x (x + suc y) (omega arith) (omega arith) g e h l) (λ u m. (λ h. omega arith, λ h. omega arith))
-cut (negsuc x) (pos y) g h l t s =
-    let e = of-eq (of-minus (of-pos y) (of-self (negsuc x))) (of-pos (suc x + y)) (omega arith) in
-    cut-start s (crossed false (suc x) (suc x + y) (omega arith) (omega arith) g e h l) (λ u m. (λ h. omega arith, λ h. omega arith))
-cut (negsuc x) (negsuc y) g h l t s = absurd t
+cut (pos x) (negsuc y) t s = cut-end s (record { some = omega arith; part = omega arith }) (λ u m. (λ h. omega arith, λ h. omega arith))
+cut (negsuc x) (pos y) t s = cut-start s (record { some = omega arith; part = omega arith }) (λ u m. (λ h. omega arith, λ h. omega arith))
+cut (negsuc x) (negsuc y) t s = absurd t
+
+-- ---- plane by plane
+
+-- a plane that keeps a place has an end on its positive side
+kept-end : (D D' : ℤ) (u m : ℕ) → 0 < u + m → Keeps D D' u m → T (nonNeg D || nonNeg D')
+kept-end (pos x) D' u m h k = tt
+kept-end (negsuc x) (pos y) u m h k = tt
+kept-end (negsuc x) (negsuc y) u m h k = absurd (omega arith)
+
+-- each plane has an end on its positive side
+unfoldable pub eachHasEnd : {X : Type 0} → (X → ℤ) → (X → ℤ) → List X → Bool
+eachHasEnd D D' [] = true
+eachHasEnd D D' (x ∷ xs) = (nonNeg (D x) || nonNeg (D' x)) && eachHasEnd D D' xs
+
+-- plane by plane, those that have both ends on one side passed over, the start does not come to lie past the end
+unfoldable pub spanBy : {X : Type 0} → (X → ℤ) → (X → ℤ) → List X → Fraction → Fraction → Bool
+spanBy D D' [] start end = true
+spanBy D D' (x ∷ xs) start end =
+    let start' = startBy (D x) (D' x) start in
+    let end' = endBy (D x) (D' x) end in
+    (Bool·beq (nonNeg (D x)) (nonNeg (D' x)) || not (less end' start')) && spanBy D D' xs start' end'
+
+-- every plane keeps the place
+abbrev pub KeptBy : {X : Type 0} → (X → ℤ) → (X → ℤ) → List X → ℕ → ℕ → Type 0
+KeptBy D D' [] u m = Unit {0}
+KeptBy D D' (x ∷ xs) u m = Keeps (D x) (D' x) u m × KeptBy D D' xs u m
+
+-- a plane that does not cut a span that is there leaves it there, so that the test may be made for it too
+tested : (D D' : ℤ) (start end : Fraction) → T (not (less end start))
+    → T (Bool·beq (nonNeg D) (nonNeg D') || not (less (endBy D D' end) (startBy D D' start))) ↔ T (not (less (endBy D D' end) (startBy D D' start)))
+tested (pos x) (pos y) start end n = (λ t. n, λ t. tt)
+tested (pos x) (negsuc y) start end n = (λ t. t, λ t. t)
+tested (negsuc x) (pos y) start end n = (λ t. t, λ t. t)
+tested (negsuc x) (negsuc y) start end n = (λ t. n, λ t. tt)
+
+module _ {X : Type 0} (D D' : X → ℤ) where
+  -- where the planes so far leave a span, the rest of them decides
+  pub span-by : {start end : Fraction} {R : ℕ → ℕ → Type 0} (xs : List X) → T (eachHasEnd D D' xs) → Span start end R → T (not (less end start))
+      → T (spanBy D D' xs start end) ↔ Place (Both R (KeptBy D D' xs))
+  unfolding eachHasEnd spanBy
+  span-by [] t s n = (λ t. place-map (λ u m r. (r, tt)) (has-place s n), λ w. tt)
+  span-by {start} {end} {R} (x ∷ xs) t s n =
+      let start' = startBy (D x) (D' x) start in
+      let end' = endBy (D x) (D' x) end in
+      let here = nonNeg (D x) || nonNeg (D' x) in
+      let each = eachHasEnd D D' xs in
+      let s' = cut (D x) (D' x) (and-l here each t) s in
+      let e = tested (D x) (D' x) start end n in
+      let test = Bool·beq (nonNeg (D x)) (nonNeg (D' x)) || not (less end' start') in
+      let rest = spanBy D D' xs start' end' in (
+        λ v. place-map {R' = Both R (KeptBy D D' (x ∷ xs))} (λ u m r. (r .0 .0, (r .0 .1, r .1))) (span-by xs (and-r here each t) s' (e .0 (and-l test rest v)) .0 (and-r test rest v)),
+        λ w. let w' = place-map {R' = Both (Both R (Keeps (D x) (D' x))) (KeptBy D D' xs)} (λ u m r. ((r .0, r .1 .0), r .1 .1)) w in
+            let n' = not-past s' (place-map (λ u m r. r .0) w') in
+            and-i test rest (e .1 n') (span-by xs (and-r here each t) s' n' .1 w'),
+      )
+
+  -- every plane that keeps some place has an end on its positive side
+  covered : (xs : List X) → Place (KeptBy D D' xs) → T (eachHasEnd D D' xs)
+  unfolding eachHasEnd
+  covered [] w = tt
+  covered (x ∷ xs) w =
+      and-i (nonNeg (D x) || nonNeg (D' x)) (eachHasEnd D D' xs) (kept-end (D x) (D' x) (w .u) (w .m) (w .some) (w .holds .0))
+      (covered xs (place-map (λ u m r. r .1) w))
+
+  -- The planes leave some of the segment, from its first end to its second, exactly where some place of it is kept by every plane.
+  pub span-is : (xs : List X) → T (eachHasEnd D D' xs && spanBy D D' xs firstEnd secondEnd) ↔ Place (KeptBy D D' xs)
+  span-is xs =
+      let each = eachHasEnd D D' xs in
+      let left = spanBy D D' xs firstEnd secondEnd in (
+        λ t. place-map (λ u m r. r .1) (span-by xs (and-l each left t) whole-span tt .0 (and-r each left t)),
+        λ w. let c = covered xs w in and-i each left c (span-by xs c whole-span tt .1 (place-map (λ u m r. (tt, r)) w)),
+      )
