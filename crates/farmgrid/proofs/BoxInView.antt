@@ -13,7 +13,7 @@ use lib.Signed.{_≤ℤ_}
 use Rattle.farmgrid.proofs.Integer.{hi, lo, of-self as self, of-pos, of-neg, of-le, of-min, of-max, le-is}
 use Rattle.farmgrid.specs.Placement.{smaller, larger}
 use Rattle.farmgrid.proofs.Signs.{_⊟_, _⊠_, flip}
-use Rattle.farmgrid.proofs.QuarterTurns.{Single, single, single-dot}
+use Rattle.farmgrid.proofs.Singles.{Single, single, single-dot}
 use Rattle.farmgrid.proofs.PlacedRanges.{placed-nonempty}
 use Rattle.verdict.specs.declared.plane.Plane.{Plane}
 use Rattle.verdict.specs.declared.bbox.BBox3d.{BBox3d}

@@ -26,8 +26,10 @@ use Rattle.matrix.specs.declared.vec.Vec3d.{Vec3d}
 use Rattle.matrix.specs.declared.vec.Vec4d.{Vec4d}
 use Rattle.farmgrid.specs.Placement.{WholeVec, WholeVec4, WholeRange, WholeMatrix, Within, NonEmpty, Placement, gridSize, dotℤ, dot4ℤ, sizes}
 use Rattle.farmgrid.proofs.Signs.{_⊞_, _⊟_, _⊠_, abs-flip}
-use Rattle.farmgrid.proofs.QuarterTurns.{three, four, single, single-dot, widen, widen-placement}
-use Rattle.farmgrid.proofs.WholeMatrices.{zero-whole, one-whole, axis-fit, dot-fit, whole-vec3, transposed-whole}
+use Rattle.farmgrid.proofs.Singles.{three, four, single, single-dot}
+use Rattle.farmgrid.proofs.QuarterTurns.{widen, widen-placement}
+use Rattle.farmgrid.proofs.WholeSums.{zero-whole, one-whole, axis-fit, dot-fit, whole-vec3}
+use Rattle.farmgrid.proofs.WholePlacements.{transposed-whole}
 use Rattle.farmgrid.proofs.Units.{unit-length, unit-normalized}
 use Rattle.farmgrid.proofs.Inverses.{inverse-whole}
 use Rattle.farmgrid.proofs.WholeRanges.{nonempty-whole}

@@ -7,7 +7,8 @@ use mathlib.Core.List.{List, map}
 use Prim.Native.Nat.{ℕ}
 use lib.IntN.{ℤ, _-ℤ_}
 use Rattle.farmgrid.specs.Placement.{PlacementWithin, movedℤ, productℤ, larger}
-use Rattle.farmgrid.proofs.QuarterTurns.{same-dot, product-moves}
+use Rattle.farmgrid.proofs.Singles.{same-dot}
+use Rattle.farmgrid.proofs.QuarterTurns.{product-moves}
 use Rattle.verdict.specs.declared.plane.Plane.{Plane}
 use Rattle.verdict.specs.declared.bbox.BBox3d.{BBox3d}
 use Rattle.verdict.specs.Frustum.{boxOf}

@@ -21,8 +21,9 @@ use Rattle.matrix.specs.declared.inverse.Inverted.the-variants.{Matrix}
 use Rattle.farmgrid.specs.Placement.{WholeRange, WholeMatrix, Within, NonEmpty, PlacementWithin, Placement, GridPoint, gridSize}
 use Rattle.farmgrid.specs.Placement.{productℤ, placedLow, placedHigh}
 use Rattle.farmgrid.specs.Placement.{smaller as smallerℤ, larger as largerℤ}
-use Rattle.farmgrid.proofs.QuarterTurns.{inverseℤ, widen, widen-placement, product-placement, inverse-placement}
-use Rattle.farmgrid.proofs.WholeMatrices.{product-whole}
+use Rattle.farmgrid.proofs.QuarterTurns.{widen, widen-placement, product-placement}
+use Rattle.farmgrid.proofs.InversePlacements.{inverseℤ, inverse-placement}
+use Rattle.farmgrid.proofs.WholePlacements.{product-whole}
 use Rattle.farmgrid.proofs.Inverses.{WholeInverse, inverse-whole}
 use Rattle.farmgrid.proofs.WholeRanges.{nonempty-whole, union-whole, transformed-whole}
 use Rattle.farmgrid.proofs.PlacedRanges.{extreme, placed, placed-is, placed-nonempty, placed-within, placed-product, placed-grown}

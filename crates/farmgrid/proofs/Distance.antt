@@ -19,7 +19,7 @@ use Rattle.farmgrid.specs.Placement.{dotℤ}
 use Rattle.verdict.specs.declared.plane.Plane.{Plane}
 use Rattle.verdict.specs.Plane.{distanceTo, onPositiveSide}
 use Rattle.farmgrid.specs.FarmGrid.{WholePlane, SegmentPlane, IsPoint, IsPlane}
-use Rattle.farmgrid.proofs.WholeMatrices.{zero-whole, axis-fit, dot-fit}
+use Rattle.farmgrid.proofs.WholeSums.{zero-whole, axis-fit, dot-fit}
 use Rattle.farmgrid.proofs.Dot.{dot-comm, dot-sum}
 
 -- ---- tests

@@ -17,7 +17,7 @@ use Rattle.verdict.specs.Volume.{planesOf}
 use Rattle.verdict.specs.Frustum.{boxOf as inView}
 use Rattle.verdict.specs.FrustumCalls.{intersectsBoxCall}
 use Rattle.farmgrid.proofs.Integer.{of-self as self, of-neg, of-le, le-is}
-use Rattle.farmgrid.proofs.QuarterTurns.{single}
+use Rattle.farmgrid.proofs.Singles.{single}
 use Rattle.farmgrid.specs.Placement.{PlacementWithin}
 use Rattle.farmgrid.specs.FarmGrid.{WholePlane, AxisPlane, WholeBox, lowOf, highOf}
 use Rattle.farmgrid.specs.Records.{ViewRecord, BoxRecord, BoxRecords, none, more}

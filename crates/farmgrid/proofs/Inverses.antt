@@ -24,11 +24,14 @@ use Rattle.matrix.specs.Constants.{one, singularDeterminant}
 use Rattle.matrix.specs.Matrix.{entry, determinant3}
 use Rattle.matrix.specs.Inverse.{turned, plus, expanded, without, cofactor, adjugate, determinant, scaled, inverseAbove}
 use Rattle.farmgrid.specs.Placement.{WholeMatrix, PlacementWithin}
-use Rattle.farmgrid.proofs.QuarterTurns.{inverseℤ, upper-size}
+use Rattle.farmgrid.proofs.QuarterTurns.{upper-size}
+use Rattle.farmgrid.proofs.InversePlacements.{inverseℤ}
+use Rattle.farmgrid.proofs.TurnDeterminants.{plusℤ, expandedℤ, cofactorℤ, mirrored, determinant-is}
+use Rattle.farmgrid.proofs.Cofactors.{cofactor-is, first-row-is}
+use Rattle.farmgrid.proofs.WholeSums.{over-unit, entry-matrix, whole-matrix, dot4-fit}
+use Rattle.farmgrid.proofs.WholePlacements.{wide, entry-fit, determinant3-whole}
 use Rattle.farmgrid.proofs.Signs.{flip, flip-flip}
-use Rattle.farmgrid.proofs.WholeMatrices.{wide, over-unit, entry-fit, entry-matrix, whole-matrix, dot4-fit, determinant3-whole}
 use Rattle.farmgrid.proofs.Units.{is-one}
-use Rattle.farmgrid.proofs.Cofactors.{plusℤ, expandedℤ, cofactorℤ, mirrored, determinant-is, cofactor-is, first-row-is}
 
 -- ---- a cofactor
 

@@ -8,9 +8,14 @@ pub mod Quotient
 pub mod Formula
 -- quarter-turn placements
 pub mod Signs
+pub mod Singles
 pub mod QuarterTurns
+pub mod InversePlacements
+pub mod WholeSums
 pub mod WholeMatrices
+pub mod WholePlacements
 pub mod Units
+pub mod TurnDeterminants
 pub mod Cofactors
 pub mod Inverses
 pub mod WholeRanges

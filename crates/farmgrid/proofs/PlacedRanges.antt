@@ -13,7 +13,8 @@ use Rattle.farmgrid.proofs.Integer.{of-self as self, of-neg, of-eq, of-
 use Rattle.farmgrid.specs.Placement.{Within, NonEmpty, PlacementWithin, movedℤ, productℤ}
 use Rattle.farmgrid.specs.Placement.{smaller, larger, placedLow, placedHigh}
 use Rattle.farmgrid.proofs.Signs.{_⊞_, flip}
-use Rattle.farmgrid.proofs.QuarterTurns.{inverseℤ, source, moved-is, moved-within, product-placement, product-moves, inverse-placement, undone}
+use Rattle.farmgrid.proofs.QuarterTurns.{source, moved-is, moved-within, product-placement, product-moves}
+use Rattle.farmgrid.proofs.InversePlacements.{inverseℤ, inverse-placement, undone}
 use Rattle.farmgrid.proofs.WholeRanges.{placed-low, placed-high}
 
 -- ---- the least, and where u is true the greatest

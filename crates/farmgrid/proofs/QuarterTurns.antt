@@ -1,19 +1,16 @@
--- Quarter turns in whole numbers. The idea: three numbers whose sizes add up to 1 are a 1 or a -1 at one place and zeros
--- elsewhere, so that their product with any three numbers is one of these, or its negation. Hence a placement takes each axis
--- from one axis and keeps sizes but for its translation, and products and inverses of placements are placements.
-use mathlib.Core.Path.{_≡_, refl, sym, ap, _∙_}
-use Prim.Native.Nat.{ℕ, zero, suc, _+_, _≤_, _<_}
+-- Quarter turns in whole numbers. The idea: each row and column is a 1 or a -1 at one place, so that a placement takes each axis from one axis and keeps
+-- sizes but for its translation, and products of placements are placements. Assumes nothing.
+use mathlib.Core.Path.{_≡_, sym, ap, _∙_}
+use Prim.Native.Nat.{ℕ, _+_, _≤_, _<_}
 use native.Mathlib.Omega.{arith}
-use mathlib.Core.Bool.{Bool, true, false, not, cond}
-use lib.Dec.{eqb, eqb→eq, lit<}
-use lib.IntN.{ℤ, pos, negsuc, negℤ, natAbs, _+ℤ_, _-ℤ_, _*ℤ_, *ℤ-comm, pos-ne-negsuc}
-use lib.Signed.{nonNeg}
-use Rattle.number.specs.Grid.{signed}
-use Rattle.farmgrid.proofs.Integer.{by-test, of-self as self, of-pos, of-neg, of-eq, abs-sum, abs-neg}
-use Rattle.farmgrid.proofs.Exact.{abs-signed}
+use mathlib.Core.Bool.{Bool, true, false}
+use lib.Dec.{lit<}
+use lib.IntN.{ℤ, pos, natAbs, _+ℤ_, _-ℤ_, _*ℤ_}
+use Rattle.farmgrid.proofs.Integer.{of-self as self, of-pos, of-neg, of-eq, abs-sum}
 use Rattle.farmgrid.specs.Placement.{Within, QuarterTurn, PlacementWithin, sizes}
-use Rattle.farmgrid.specs.Placement.{dotℤ, columnℤ, turnedℤ, movedℤ, productℤ}
-use Rattle.farmgrid.proofs.Signs.{_⊞_, _⊠_, flip, abs-flip, times-unit, dot-flip, plus-zero, plus-one}
+use Rattle.farmgrid.specs.Placement.{columnℤ, turnedℤ, movedℤ, productℤ}
+use Rattle.farmgrid.proofs.Signs.{_⊞_, _⊠_, flip, abs-flip, dot-flip, plus-zero, plus-one}
+use Rattle.farmgrid.proofs.Singles.{three, four, Single, single, same-dot, dot-single, single-dot}
 
 -- ---- exact operations that the laws alone speak of
 
@@ -25,92 +22,6 @@ abbrev pub determinantℤ : (ℕ → ℕ → ℤ) → ℤ
 determinantℤ f =
     f 0 0 *ℤ f 1 1 *ℤ f 2 2 +ℤ f 0 1 *ℤ f 1 2 *ℤ f 2 0 +ℤ f 0 2 *ℤ f 1 0 *ℤ f 2 1
     -ℤ f 0 0 *ℤ f 1 2 *ℤ f 2 1 -ℤ f 0 1 *ℤ f 1 0 *ℤ f 2 2 -ℤ f 0 2 *ℤ f 1 1 *ℤ f 2 0
-
--- what undoes a placement: its three by three transposed, the translation turned back and negated, the same last column
-abbrev pub inverseℤ : (ℕ → ℕ → ℤ) → ℕ → ℕ → ℤ
-inverseℤ f i j = cond (eqb j 3) (f i 3) (cond (eqb i 3) (negℤ (turnedℤ (transposeℤ f) (f 3) j)) (f j i))
-
--- ---- what holds at each place holds at every place
-
-pub three : (P : ℕ → Type 0) → P 0 → P 1 → P 2 → (i : ℕ) → i < 3 → P i
-three P a b c zero h = a
-three P a b c (suc zero) h = b
-three P a b c (suc (suc zero)) h = c
-three P a b c (suc (suc (suc i))) h = absurd (omega arith)
-
-pub four : (P : ℕ → Type 0) → ((i : ℕ) → i < 3 → P i) → P 3 → (i : ℕ) → i < 4 → P i
-four P t d zero h = t 0 (lit< tt)
-four P t d (suc zero) h = t 1 (lit< tt)
-four P t d (suc (suc zero)) h = t 2 (lit< tt)
-four P t d (suc (suc (suc zero))) h = d
-four P t d (suc (suc (suc (suc i)))) h = absurd (omega arith)
-
--- ---- a 1 or a -1 at one place
-
--- g at the axis k, and 0 at the others
-abbrev pub only : (ℕ → ℤ) → ℕ → ℕ → ℤ
-only g k i = cond (eqb i k) (g i) (pos 0)
-
-pub sum-only : (g : ℕ → ℤ) (k : ℕ) → k < 3 → only g k 0 +ℤ only g k 1 +ℤ only g k 2 ≡ g k
-sum-only g = three (λ k. only g k 0 +ℤ only g k 1 +ℤ only g k 2 ≡ g k)
-    (of-eq (self (g 0) ⊞ of-pos 0 ⊞ of-pos 0) (self (g 0)) (omega arith))
-    (of-eq (of-pos 0 ⊞ self (g 1) ⊞ of-pos 0) (self (g 1)) (omega arith))
-    (of-eq (of-pos 0 ⊞ of-pos 0 ⊞ self (g 2)) (self (g 2)) (omega arith))
-
-abbrev pub unit : Bool → ℕ → ℕ → ℤ
-unit s = only (λ i. signed s 1)
-
--- the numbers p are 0 but for a 1, or a -1 where the sign is true, at the axis `from`
-pub record Single (p : ℕ → ℤ) : Type 0 where
-  pub from : ℕ
-  pub below : from < 3
-  pub sign : Bool
-  pub is : (i : ℕ) → i < 3 → p i ≡ unit sign from i
-
-none : (z : ℤ) → natAbs z ≡ 0 → z ≡ pos 0
-none (pos n) h = ap pos h
-none (negsuc n) h = absurd (omega arith)
-
-one : (z : ℤ) → natAbs z ≡ 1 → z ≡ signed (not (nonNeg z)) 1
-one (pos n) h = ap pos h
-one (negsuc n) h = ap negsuc (omega arith)
-
-pub single : {p : ℕ → ℤ} → sizes p ≡ 1 → Single p
-single {p} h = go (natAbs (p 0)) (natAbs (p 1)) refl refl
-  where
-    at : (k : ℕ) → k < 3 → ((i : ℕ) → i < 3 → p i ≡ unit (not (nonNeg (p k))) k i) → Single p
-    at k l e = record { from = k; below = l; sign = not (nonNeg (p k)); is = e }
-
-    go : (a b : ℕ) → natAbs (p 0) ≡ a → natAbs (p 1) ≡ b → Single p
-    go (suc a) b e e' = at 0 (lit< tt)
-        (three (λ i. p i ≡ unit (not (nonNeg (p 0))) 0 i) (one (p 0) (omega arith)) (none (p 1) (omega arith)) (none (p 2) (omega arith)))
-    go zero (suc b) e e' = at 1 (lit< tt)
-        (three (λ i. p i ≡ unit (not (nonNeg (p 1))) 1 i) (none (p 0) (omega arith)) (one (p 1) (omega arith)) (none (p 2) (omega arith)))
-    go zero zero e e' = at 2 (lit< tt)
-        (three (λ i. p i ≡ unit (not (nonNeg (p 2))) 2 i) (none (p 0) (omega arith)) (none (p 1) (omega arith)) (one (p 2) (omega arith)))
-
--- at its own place
-pub unit-own : (s : Bool) (k : ℕ) → k < 3 → unit s k k ≡ signed s 1
-unit-own s = three (λ k. unit s k k ≡ signed s 1) refl refl refl
-
--- ---- its product with any three numbers is one of them, or its negation
-
--- products of equal numbers
-pub same-dot : (p : ℕ → ℤ) {q q' : ℕ → ℤ} → ((i : ℕ) → i < 3 → q i ≡ q' i) → dotℤ p q ≡ dotℤ p q'
-same-dot p e t = p 0 *ℤ e 0 (lit< tt) t +ℤ p 1 *ℤ e 1 (lit< tt) t +ℤ p 2 *ℤ e 2 (lit< tt) t
-
-dot-comm : (p q : ℕ → ℤ) → dotℤ p q ≡ dotℤ q p
-dot-comm p q t = *ℤ-comm (p 0) (q 0) t +ℤ *ℤ-comm (p 1) (q 1) t +ℤ *ℤ-comm (p 2) (q 2) t
-
-module _ {p : ℕ → ℤ} (s : Single p) (q : ℕ → ℤ) where
-  pub dot-single : dotℤ q p ≡ flip (s .sign) (q (s .from))
-  dot-single = (λ t. each 0 (lit< tt) t +ℤ each 1 (lit< tt) t +ℤ each 2 (lit< tt) t) ∙ sum-only (λ i. flip (s .sign) (q i)) (s .from) (s .below)
-    where
-      each : (i : ℕ) → i < 3 → q i *ℤ p i ≡ only (λ i. flip (s .sign) (q i)) (s .from) i
-      each i h = ap (_*ℤ_ (q i)) (s .is i h) ∙ times-unit (s .sign) (eqb i (s .from)) (q i)
-
-  pub single-dot : dotℤ p q ≡ flip (s .sign) (q (s .from))
-  single-dot = dot-comm p q ∙ dot-single
 
 -- ---- a quarter turn takes each axis from one axis, and to one axis
 
@@ -160,14 +71,13 @@ widen l P = record { size = λ i h. let s = P .size i h in omega arith }
 pub widen-placement : {a b : ℕ} {f : ℕ → ℕ → ℤ} → a ≤ b → PlacementWithin a f → PlacementWithin b f
 widen-placement l F = record { turn = F .turn; translation = widen l (F .translation); zeros = F .zeros; last = F .last }
 
--- the last number of a turned direction is 0, and that of a moved point 1
-module _ {b : ℕ} {f : ℕ → ℕ → ℤ} (F : PlacementWithin b f) (p : ℕ → ℤ) where
-  pub turned-last : turnedℤ f p 3 ≡ pos 0
-  turned-last = same-dot p {q = columnℤ f 3} {q' = λ i. pos 0} (F .zeros)
-      ∙ of-eq (self (p 0) ⊠ of-pos 0 ⊞ self (p 1) ⊠ of-pos 0 ⊞ self (p 2) ⊠ of-pos 0) (of-pos 0) (omega arith)
+-- the last number of a turned direction is 0, and that of a moved point 1, by the last column alone
+pub last-turned : (f : ℕ → ℕ → ℤ) → ((i : ℕ) → i < 3 → f i 3 ≡ pos 0) → (p : ℕ → ℤ) → turnedℤ f p 3 ≡ pos 0
+last-turned f zeros p = same-dot p {q = columnℤ f 3} {q' = λ i. pos 0} zeros
+    ∙ of-eq (self (p 0) ⊠ of-pos 0 ⊞ self (p 1) ⊠ of-pos 0 ⊞ self (p 2) ⊠ of-pos 0) (of-pos 0) (omega arith)
 
-  pub moved-last : movedℤ f p 3 ≡ pos 1
-  moved-last = rw (turned-last, F .last)
+pub last-moved : (f : ℕ → ℕ → ℤ) → ((i : ℕ) → i < 3 → f i 3 ≡ pos 0) → f 3 3 ≡ pos 1 → (p : ℕ → ℤ) → movedℤ f p 3 ≡ pos 1
+last-moved f zeros last p = rw (last-turned f zeros p, last)
 
 -- ---- products
 
@@ -179,7 +89,7 @@ module _ {b : ℕ} {f : ℕ → ℕ → ℤ} (F : PlacementWithin b f) (g : ℕ 
   pub product-moved : (j : ℕ) → productℤ f g 3 j ≡ movedℤ g (f 3) j
   product-moved j = ap (λ (z : ℤ). turnedℤ g (f 3) j +ℤ z *ℤ g 3 j) (F .last) ∙ plus-one (turnedℤ g (f 3) j) (g 3 j)
 
-same-sizes : (p q : ℕ → ℤ) → ((i : ℕ) → i < 3 → natAbs (p i) ≡ natAbs (q i)) → sizes p ≡ sizes q
+pub same-sizes : (p q : ℕ → ℤ) → ((i : ℕ) → i < 3 → natAbs (p i) ≡ natAbs (q i)) → sizes p ≡ sizes q
 same-sizes p q e t = e 0 (lit< tt) t + e 1 (lit< tt) t + e 2 (lit< tt) t
 
 module _ {a b : ℕ} {f g : ℕ → ℕ → ℤ} (F : PlacementWithin a f) (G : PlacementWithin b g) where
@@ -188,8 +98,8 @@ module _ {a b : ℕ} {f g : ℕ → ℕ → ℤ} (F : PlacementWithin a f) (G : 
   product-placement = record {
     turn = record { rows = across; columns = down };
     translation = record { size = λ j h. let l = moved-within G (F .translation) .size j h in omega (arith, ap natAbs (product-moved F g j)) };
-    zeros = λ i h. product-turned F g i 3 h ∙ turned-last G (f i);
-    last = product-moved F g 3 ∙ moved-last G (f 3);
+    zeros = λ i h. product-turned F g i 3 h ∙ last-turned g (G .zeros) (f i);
+    last = product-moved F g 3 ∙ last-moved g (G .zeros) (G .last) (f 3);
   }
     where
       across : (i : ℕ) → i < 3 → sizes (productℤ f g i) ≡ 1
@@ -220,75 +130,3 @@ module _ {a b : ℕ} {f g : ℕ → ℕ → ℤ} (F : PlacementWithin a f) (G : 
       regroup : (s : Bool) (a b c : ℤ) → flip s a +ℤ (flip s b +ℤ c) ≡ flip s (a +ℤ b) +ℤ c
       regroup false a b c = of-eq (self a ⊞ (self b ⊞ self c)) (self a ⊞ self b ⊞ self c) (omega arith)
       regroup true a b c = of-eq (of-neg (self a) ⊞ (of-neg (self b) ⊞ self c)) (of-neg (self a ⊞ self b) ⊞ self c) (omega arith)
-
--- ---- inverses
-
--- the numbers of an inverse
-not-last : (i : ℕ) → i < 3 → eqb i 3 ≡ false
-not-last = three (λ i. eqb i 3 ≡ false) refl refl refl
-
-pub inverse-upper : (f : ℕ → ℕ → ℤ) (i j : ℕ) → i < 3 → j < 3 → inverseℤ f i j ≡ f j i
-inverse-upper f i j h k = rw (not-last i h, not-last j k)
-
-pub inverse-last : (f : ℕ → ℕ → ℤ) (j : ℕ) → j < 3 → inverseℤ f 3 j ≡ negℤ (dotℤ (f 3) (f j))
-inverse-last f j h = rw (not-last j h)
-
-module _ {b : ℕ} {f : ℕ → ℕ → ℤ} (F : PlacementWithin b f) where
-  pub transposed-turn : QuarterTurn (transposeℤ f)
-  transposed-turn = record { rows = F .turn .columns; columns = F .turn .rows }
-
-  -- the inverse of a placement is a placement
-  pub inverse-placement : PlacementWithin b (inverseℤ f)
-  inverse-placement = record {
-    turn = record {
-      rows = λ i h. same-sizes (inverseℤ f i) (columnℤ f i) (λ j k. ap natAbs (inverse-upper f i j h k)) ∙ F .turn .columns i h;
-      columns = λ j h. same-sizes (columnℤ (inverseℤ f) j) (f j) (λ i k. ap natAbs (inverse-upper f i j k h)) ∙ F .turn .rows j h;
-    };
-    translation = record {
-      size = λ j h.
-          let l = turned-within transposed-turn (F .translation) .size j h in
-          omega (arith, ap natAbs (inverse-last f j h), abs-neg (dotℤ (f 3) (f j)));
-    };
-    zeros = F .zeros;
-    last = F .last;
-  }
-
--- where the 1 or -1 of p stands at j in q, the place in q is j, and the sign is the same
-crossing : {p q : ℕ → ℤ} (s : Single p) (t : Single q) (j : ℕ) → j < 3 → p (s .from) ≡ q j → (t .from ≡ j) × (t .sign ≡ s .sign)
-crossing s t j h e =
-    by-test (λ u. signed (s .sign) 1 ≡ cond u (signed (t .sign) 1) (pos 0) → (t .from ≡ j) × (t .sign ≡ s .sign)) (eqb j (t .from))
-    (λ r e. (sym (eqb→eq j (t .from) r), alike (t .sign) (s .sign) (sym e)))
-    (λ r e. absurd (omega (arith, ap natAbs e, abs-signed (s .sign) 1)))
-    (sym (unit-own (s .sign) (s .from) (s .below)) ∙ sym (s .is (s .from) (s .below)) ∙ e ∙ t .is j h)
-  where
-    alike : (a b : Bool) → signed a 1 ≡ signed b 1 → a ≡ b
-    alike false false e = refl
-    alike false true e = absurd (pos-ne-negsuc 1 0 e)
-    alike true false e = absurd (pos-ne-negsuc 1 0 (sym e))
-    alike true true e = refl
-
--- the inverse, and then the placement, leave a point where it was
-pub undone : {b : ℕ} {f : ℕ → ℕ → ℤ} → PlacementWithin b f → (p : ℕ → ℤ) (j : ℕ) → j < 3 → movedℤ f (movedℤ (inverseℤ f) p) j ≡ p j
-undone {f = f} F p j h =
-    moved-is F (movedℤ (inverseℤ f) p) j h
-    ∙ ap (λ (z : ℤ). flip (s .sign) z +ℤ f 3 j) back
-    ∙ (λ i. flip (s .sign) (flip (c .1 i) (p (c .0 i)) +ℤ negℤ (flip (c .1 i) (f 3 (c .0 i)))) +ℤ f 3 j)
-    ∙ cancel (s .sign) (p j) (f 3 j)
-  where
-    s : Single (columnℤ f j)
-    s = source (F .turn) j h
-
-    t : Single (f (s .from))
-    t = target (F .turn) (s .from) (s .below)
-
-    c : (t .from ≡ j) × (t .sign ≡ s .sign)
-    c = crossing s t j h refl
-
-    back : movedℤ (inverseℤ f) p (s .from) ≡ flip (t .sign) (p (t .from)) +ℤ negℤ (flip (t .sign) (f 3 (t .from)))
-    back =
-        let e = same-dot p {q = columnℤ (inverseℤ f) (s .from)} {q' = f (s .from)} (λ i l. inverse-upper f i (s .from) l (s .below)) in
-        λ i. (e ∙ dot-single t p) i +ℤ (inverse-last f (s .from) (s .below) ∙ ap negℤ (dot-single t (f 3))) i
-
-    cancel : (s : Bool) (a t : ℤ) → flip s (flip s a +ℤ negℤ (flip s t)) +ℤ t ≡ a
-    cancel false a t = of-eq (self a ⊞ of-neg (self t) ⊞ self t) (self a) (omega arith)
-    cancel true a t = of-eq (of-neg (of-neg (self a) ⊞ of-neg (of-neg (self t))) ⊞ self t) (self a) (omega arith)

@@ -19,7 +19,7 @@ use Rattle.verdict.specs.Plane.{onPositiveSide}
 use Rattle.verdict.specs.Frustum.{every, pointOf, hasEnd, spanLeft, segmentOf}
 use Rattle.farmgrid.specs.FarmGrid.{WholePlane, SegmentPlane, IsPoint, ArePlanes, none, more}
 use Rattle.farmgrid.specs.FarmGrid.{exactly, Satisfies, InView, SegmentInView}
-use Rattle.farmgrid.proofs.WholeMatrices.{zero-whole, one-whole}
+use Rattle.farmgrid.proofs.WholeSums.{zero-whole, one-whole}
 use Rattle.farmgrid.proofs.Distance.{gap, non-negative, distance-whole, side, slope-fit}
 use Rattle.farmgrid.proofs.Fractions.{Fraction}
 use Rattle.farmgrid.proofs.Span.{Place, place-map, eachHasEnd, spanBy, KeptBy, span-is}

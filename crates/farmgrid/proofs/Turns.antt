@@ -23,7 +23,7 @@ use Rattle.farmgrid.specs.FarmGrid.{WholeBox, GridBox, IsPoint, IsBox, m
 use Rattle.farmgrid.specs.Records.{PointRecord, BoxRecord, TurnRecord, Accepted}
 use Rattle.farmgrid.specs.Turns.{TurnedPoint, TurnedBox, TurnKeepsVerdicts}
 use Rattle.farmgrid.proofs.QuarterTurns.{widen, widen-placement}
-use Rattle.farmgrid.proofs.WholeMatrices.{point-whole, product-whole}
+use Rattle.farmgrid.proofs.WholePlacements.{point-whole, product-whole}
 use Rattle.farmgrid.proofs.Answers.{point-answer, segment-answer, box-answer, point-moves, box-moves}
 use Rattle.group.proofs.Written.{flag-read}
 use Rattle.farmgrid.proofs.Turned.{point-turned, segment-turned}

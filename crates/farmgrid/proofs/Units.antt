@@ -24,9 +24,9 @@ use Rattle.matrix.specs.Constants.{one, minLength}
 use Rattle.matrix.specs.Vec.{axis, dot, lengthOf, normalized}
 use Rattle.farmgrid.specs.Placement.{WholeVec, dotℤ, sizes}
 use Rattle.matrix.proofs.Literals.{one-bits}
-use Rattle.farmgrid.proofs.QuarterTurns.{three, unit-own, Single, single, single-dot}
+use Rattle.farmgrid.proofs.Singles.{three, unit-own, Single, single, single-dot}
+use Rattle.farmgrid.proofs.WholeSums.{one-whole, over-unit, dot-fit, whole-vec3}
 use Rattle.farmgrid.proofs.Signs.{flip}
-use Rattle.farmgrid.proofs.WholeMatrices.{one-whole, over-unit, dot-fit, whole-vec3}
 
 -- two floats of the format that are the same whole number, other than 0, are the same
 pub whole-same : {x y : Float} {z : ℤ} → T (fits binary64 x) → T (fits binary64 y) → Whole x z → Whole y z → 0 < natAbs z → x ≡ y

@@ -24,9 +24,11 @@ use Rattle.matrix.specs.Range as Range
 use Rattle.matrix.specs.Range.{sumFrom, emptyAlong, isEmpty, union, size, reach}
 use Rattle.farmgrid.specs.Placement.{WholeVec, WholeRange, WholeMatrix, Within, NonEmpty, PlacementWithin, columnℤ, movedℤ}
 use Rattle.farmgrid.specs.Placement.{smaller, larger, pickedOf, cornerℤ, placedCorner, placedLow, placedHigh}
-use Rattle.farmgrid.proofs.QuarterTurns.{three, only, sum-only, Single, source, moved-is, widen-placement}
+use Rattle.farmgrid.proofs.Singles.{three, only, sum-only, Single}
+use Rattle.farmgrid.proofs.QuarterTurns.{source, moved-is, widen-placement}
+use Rattle.farmgrid.proofs.WholeSums.{axis-fit, whole-vec3}
+use Rattle.farmgrid.proofs.WholePlacements.{wide, entry-fit}
 use Rattle.farmgrid.proofs.Signs.{_⊞_, flip, times-unit}
-use Rattle.farmgrid.proofs.WholeMatrices.{wide, axis-fit, entry-fit, whole-vec3}
 
 -- ---- emptiness
 
