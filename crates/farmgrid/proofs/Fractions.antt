@@ -1,9 +1,9 @@
 -- Fractions of whole numbers, compared by cross products, and where a plane cuts a segment. No float occurs. Assumes nothing.
 use Prim.Native.Nat.{ℕ, _+_, _*_, _≤_, _<_}
-use native.Mathlib.Nat.{mul-le-mul-right, le-of-mul-le-mul-right}
+use native.Mathlib.Nat.{le-of-lt, not-le-of-lt, mul-le-mul-right, le-of-mul-le-mul-right}
 use native.Mathlib.Omega.{arith}
 use mathlib.Core.Bool.{Bool, not, cond, _&&_}
-use lib.Dec.{ltb}
+use lib.Dec.{T, ltb, ltb→lt, nltb→le}
 use lib.IntN.{ℤ, natAbs}
 use lib.Signed.{nonNeg}
 
@@ -16,7 +16,12 @@ pub record Proper (f : Fraction) : Type 0 where
   pub some : 0 < f .bottom
   pub part : f .top ≤ f .bottom
 
--- f < g, and the two choices by it
+-- ---- their order
+-- f ≤ g
+abbrev pub AtMost : Fraction → Fraction → Type 0
+AtMost f g = f .top * g .bottom ≤ g .top * f .bottom
+
+-- the test of f < g, and the two choices by it
 abbrev pub less : Fraction → Fraction → Bool
 less f g = ltb (f .top * g .bottom) (g .top * f .bottom)
 
@@ -26,12 +31,20 @@ later f g = cond (less f g) g f
 abbrev pub earlier : Fraction → Fraction → Fraction
 earlier f g = cond (less g f) g f
 
--- x / p ≤ y / q ≤ z / r
-pub through : (x y z p q r : ℕ) → 0 < q → x * q ≤ y * p → y * r ≤ z * q → x * r ≤ z * p
-through x y z p q r Q h k =
-    let i = mul-le-mul-right r h in
-    let j = mul-le-mul-right p k in
-    le-of-mul-le-mul-right {k = q} (omega arith) Q
+pub at-most-less : (f g : Fraction) → T (less f g) → AtMost f g
+at-most-less f g t = le-of-lt (ltb→lt (f .top * g .bottom) (g .top * f .bottom) t)
+
+pub at-most-other : (f g : Fraction) → T (not (less f g)) → AtMost g f
+at-most-other f g t = nltb→le (f .top * g .bottom) (g .top * f .bottom) t
+
+pub not-at-most : (f g : Fraction) → T (less f g) → AtMost g f → ⊥
+not-at-most f g t = not-le-of-lt (ltb→lt (f .top * g .bottom) (g .top * f .bottom) t)
+
+pub at-most-trans : (f g h : Fraction) → 0 < g .bottom → AtMost f g → AtMost g h → AtMost f h
+at-most-trans f g h G i j =
+    let i' = mul-le-mul-right (h .bottom) i in
+    let j' = mul-le-mul-right (f .bottom) j in
+    le-of-mul-le-mul-right {k = g .bottom} (omega arith) G
 
 -- ---- the segment's ends
 

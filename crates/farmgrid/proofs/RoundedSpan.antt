@@ -4,9 +4,9 @@
 use mathlib.Core.Path.{_≡_}
 use mathlib.Core.Bool.{Bool, true, false, cond}
 use Prim.Native.Nat.{ℕ, suc, _+_, _*_, _^_, _≤_, _<_}
-use native.Mathlib.Nat.{lt-of-le-of-lt, le-antisymm, mul-le-mul, not-le-of-lt}
+use native.Mathlib.Nat.{lt-of-le-of-lt, le-antisymm, mul-le-mul}
 use native.Mathlib.Omega.{arith}
-use lib.Dec.{ltb→lt, lt→ltb, nltb→le, lit<, lit≤}
+use lib.Dec.{ltb→lt, lt→ltb, lit<, lit≤}
 use lib.IntN.{ℤ, pos, negsuc, negℤ, natAbs, _-ℤ_}
 use lib.Signed.{nonNeg}
 use lib.Ieee.{Float, lt}
@@ -17,7 +17,7 @@ use Rattle.farmgrid.proofs.Integer.{by-test, of-self, of-pos, of-neg, o
 use Rattle.farmgrid.proofs.Exact.{abs-signed}
 use Rattle.farmgrid.proofs.Quotient.{Frac, frac-same, lt-frac, min-frac, max-frac, zero-frac, one-frac, div-frac}
 use Rattle.farmgrid.proofs.Distance.{same-test}
-use Rattle.farmgrid.proofs.Fractions.{Fraction, less, later, earlier, firstEnd, secondEnd, startBy, endBy}
+use Rattle.farmgrid.proofs.Fractions.{Fraction, at-most-other, not-at-most, less, later, earlier, firstEnd, secondEnd, startBy, endBy}
 use Rattle.verdict.specs.Frustum.{startCut, endCut}
 
 -- the largest denominator of a crossing: 3 * 2 ^ 24
@@ -53,20 +53,14 @@ module _ {x y : Float} {f g : Fraction} (F : Rounded x f) (G : Rounded y g) wher
   other e = record { frac = frac-same (G .frac) (F .frac .bottom) (F .frac .proper) e; fits = F .fits }
 
   min-rounded : Rounded (minOf x y) (earlier f g)
-  min-rounded =
-      let a = f .top * g .bottom in
-      let b = g .top * f .bottom in
-      by-test (λ z. Rounded (minOf x y) (cond z g f)) (less g f)
-      (λ t. min-frac (λ z. Rounded z g) (F .frac) (G .frac) (room (F .fits) (G .fits)) (λ l. G) (λ l. absurd (not-le-of-lt (ltb→lt b a t) l)))
-      (λ t. min-frac (λ z. Rounded z f) (F .frac) (G .frac) (room (F .fits) (G .fits)) (λ l. other (le-antisymm (nltb→le b a t) l)) (λ l. F))
+  min-rounded = by-test (λ z. Rounded (minOf x y) (cond z g f)) (less g f)
+      (λ t. min-frac (λ z. Rounded z g) (F .frac) (G .frac) (room (F .fits) (G .fits)) (λ l. G) (λ l. absurd (not-at-most g f t l)))
+      (λ t. min-frac (λ z. Rounded z f) (F .frac) (G .frac) (room (F .fits) (G .fits)) (λ l. other (le-antisymm (at-most-other g f t) l)) (λ l. F))
 
   max-rounded : Rounded (maxOf x y) (later f g)
-  max-rounded =
-      let a = f .top * g .bottom in
-      let b = g .top * f .bottom in
-      by-test (λ z. Rounded (maxOf x y) (cond z g f)) (less f g)
-      (λ t. max-frac (λ z. Rounded z g) (F .frac) (G .frac) (room (F .fits) (G .fits)) (λ l. G) (λ l. absurd (not-le-of-lt (ltb→lt a b t) l)))
-      (λ t. max-frac (λ z. Rounded z f) (F .frac) (G .frac) (room (F .fits) (G .fits)) (λ l. other (le-antisymm l (nltb→le a b t))) (λ l. F))
+  max-rounded = by-test (λ z. Rounded (maxOf x y) (cond z g f)) (less f g)
+      (λ t. max-frac (λ z. Rounded z g) (F .frac) (G .frac) (room (F .fits) (G .fits)) (λ l. G) (λ l. absurd (not-at-most f g t l)))
+      (λ t. max-frac (λ z. Rounded z f) (F .frac) (G .frac) (room (F .fits) (G .fits)) (λ l. other (le-antisymm l (at-most-other f g t))) (λ l. F))
 
 -- ---- the cut by a plane: the crossing is the quotient of -D by D' - D
 abbrev crossed : {n r : Float} (s : Bool) (x y : ℕ) {D : ℤ} → 0 < y → x ≤ y → Whole n (signed s x) → D ≡ signed s y

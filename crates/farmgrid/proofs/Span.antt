@@ -9,14 +9,15 @@ use mathlib.Core.Logic.{_↔_}
 use mathlib.Core.Bool.{Bool, true, not, cond, _&&_, _||_, Bool·beq}
 use mathlib.Core.List.{List, [], _∷_}
 use Prim.Native.Nat.{ℕ, _+_, _-_, _*_, _≤_, _<_}
-use native.Mathlib.Nat.{le-refl, le-of-lt, not-le-of-lt}
+use native.Mathlib.Nat.{le-refl}
 use native.Mathlib.Omega.{arith}
-use lib.Dec.{T, not-T, lit<, lit≤, ltb→lt, nltb→le}
+use lib.Dec.{T, not-T, lit<, lit≤}
 use lib.IntN.{ℤ, pos, negsuc}
 use lib.Ieee.Fits.{and-i, and-l, and-r}
 use lib.Signed.{nonNeg}
 use Rattle.farmgrid.proofs.Integer.{by-test, hi, lo}
-use Rattle.farmgrid.proofs.Fractions.{Fraction, Proper, less, later, earlier, through, firstEnd, secondEnd, startBy, endBy}
+use Rattle.farmgrid.proofs.Fractions.{Fraction, Proper, AtMost, less, later, earlier, firstEnd, secondEnd, startBy, endBy}
+use Rattle.farmgrid.proofs.Fractions.{at-most-less, at-most-other, not-at-most, at-most-trans}
 
 -- ---- places
 
@@ -38,18 +39,15 @@ pub record Place (R : ℕ → ℕ → Type 0) : Type 0 where
 pub place-map : {R R' : ℕ → ℕ → Type 0} → ((u m : ℕ) → R u m → R' u m) → Place R → Place R'
 place-map f w = record { u = w .u; m = w .m; some = w .some; holds = f (w .u) (w .m) (w .holds) }
 
--- the places from a fraction on, and those up to it
-abbrev From : Fraction → ℕ → ℕ → Type 0
-From f u m = f .top * (u + m) ≤ m * f .bottom
-
-abbrev UpTo : Fraction → ℕ → ℕ → Type 0
-UpTo f u m = m * f .bottom ≤ f .top * (u + m)
+-- the place as a fraction
+abbrev placeAt : ℕ → ℕ → Fraction
+placeAt u m = record { top = m; bottom = u + m }
 
 -- R holds of the places from start to end
 pub record Span (start end : Fraction) (R : ℕ → ℕ → Type 0) : Type 0 where
   pub first : Proper start
   pub last : Proper end
-  pub places : (u m : ℕ) → R u m ↔ (From start u m × UpTo end u m)
+  pub places : (u m : ℕ) → R u m ↔ (AtMost start (placeAt u m) × AtMost (placeAt u m) end)
 
 -- the whole segment
 pub whole-span : Span firstEnd secondEnd (λ u m. Unit {0})
@@ -64,7 +62,7 @@ module _ {start end : Fraction} {R : ℕ → ℕ → Type 0} (s : Span start end
   pub has-place : T (not (less end start)) → Place R
   has-place t =
       let e : start .bottom - start .top + start .top ≡ start .bottom = omega (arith, s .first .part) in
-      let h = nltb→le (end .top * start .bottom) (start .top * end .bottom) t in
+      let h = at-most-other end start t in
       record {
         u = start .bottom - start .top;
         m = start .top;
@@ -75,19 +73,18 @@ module _ {start end : Fraction} {R : ℕ → ℕ → Type 0} (s : Span start end
   pub not-past : Place R → T (not (less end start))
   not-past w = not-T (less end start) (λ t.
       let r = s .places (w .u) (w .m) .0 (w .holds) in
-      let h = ltb→lt (end .top * start .bottom) (start .top * end .bottom) t in
-      not-le-of-lt h (through (start .top) (w .m) (end .top) (start .bottom) (w .u + w .m) (end .bottom) (w .some) (r .0) (r .1)))
+      not-at-most end start t (at-most-trans start (placeAt (w .u) (w .m)) end (w .some) (r .0) (r .1)))
 
 -- ---- a cut at a fraction takes the places away that lie beyond it
 module _ {start end at : Fraction} {R K : ℕ → ℕ → Type 0} (s : Span start end R) (q : Proper at) where
-  cut-end : ((u m : ℕ) → K u m ↔ UpTo at u m) → Span start (earlier end at) (Both R K)
+  cut-end : ((u m : ℕ) → K u m ↔ AtMost (placeAt u m) at) → Span start (earlier end at) (Both R K)
   cut-end k = by-test (λ z. Span start (cond z at end) (Both R K)) (less at end)
       (λ t. record {
         first = s .first;
         last = q;
         places = λ u m. (
           λ r. (s .places u m .0 (r .0) .0, k u m .0 (r .1)),
-          λ i. let h = through m (at .top) (end .top) (u + m) (at .bottom) (end .bottom) (q .some) (i .1) (le-of-lt (ltb→lt (at .top * end .bottom) (end .top * at .bottom) t)) in
+          λ i. let h = at-most-trans (placeAt u m) at end (q .some) (i .1) (at-most-less at end t) in
               (s .places u m .1 (i .0, h), k u m .1 (i .1)),
         );
       })
@@ -96,18 +93,19 @@ module _ {start end at : Fraction} {R K : ℕ → ℕ → Type 0} (s : Span star
         last = s .last;
         places = λ u m. (
           λ r. s .places u m .0 (r .0),
-          λ i. (s .places u m .1 i, k u m .1 (through m (end .top) (at .top) (u + m) (end .bottom) (at .bottom) (s .last .some) (i .1) (nltb→le (at .top * end .bottom) (end .top * at .bottom) t))),
+          λ i. let h = at-most-trans (placeAt u m) end at (s .last .some) (i .1) (at-most-other at end t) in
+              (s .places u m .1 i, k u m .1 h),
         );
       })
 
-  cut-start : ((u m : ℕ) → K u m ↔ From at u m) → Span (later start at) end (Both R K)
+  cut-start : ((u m : ℕ) → K u m ↔ AtMost at (placeAt u m)) → Span (later start at) end (Both R K)
   cut-start k = by-test (λ z. Span (cond z at start) end (Both R K)) (less start at)
       (λ t. record {
         first = q;
         last = s .last;
         places = λ u m. (
           λ r. (k u m .0 (r .1), s .places u m .0 (r .0) .1),
-          λ i. let h = through (start .top) (at .top) m (start .bottom) (at .bottom) (u + m) (q .some) (le-of-lt (ltb→lt (start .top * at .bottom) (at .top * start .bottom) t)) (i .0) in
+          λ i. let h = at-most-trans start at (placeAt u m) (q .some) (at-most-less start at t) (i .0) in
               (s .places u m .1 (h, i .1), k u m .1 (i .0)),
         );
       })
@@ -116,7 +114,8 @@ module _ {start end at : Fraction} {R K : ℕ → ℕ → Type 0} (s : Span star
         last = s .last;
         places = λ u m. (
           λ r. s .places u m .0 (r .0),
-          λ i. (s .places u m .1 i, k u m .1 (through (at .top) (start .top) m (at .bottom) (start .bottom) (u + m) (s .first .some) (nltb→le (start .top * at .bottom) (at .top * start .bottom) t) (i .0))),
+          λ i. let h = at-most-trans at start (placeAt u m) (s .first .some) (at-most-other start at t) (i .0) in
+              (s .places u m .1 i, k u m .1 h),
         );
       })
 
@@ -181,7 +180,8 @@ module _ {X : Type 0} (D D' : X → ℤ) where
       let e = tested (D x) (D' x) start end n in
       let test = Bool·beq (nonNeg (D x)) (nonNeg (D' x)) || not (less end' start') in
       let rest = spanBy D D' xs start' end' in (
-        λ v. place-map {R' = Both R (KeptBy D D' (x ∷ xs))} (λ u m r. (r .0 .0, (r .0 .1, r .1))) (span-by xs (and-r here each t) s' (e .0 (and-l test rest v)) .0 (and-r test rest v)),
+        λ v. let w = span-by xs (and-r here each t) s' (e .0 (and-l test rest v)) .0 (and-r test rest v) in
+            place-map {R' = Both R (KeptBy D D' (x ∷ xs))} (λ u m r. (r .0 .0, (r .0 .1, r .1))) w,
         λ w. let w' = place-map {R' = Both (Both R (Keeps (D x) (D' x))) (KeptBy D D' xs)} (λ u m r. ((r .0, r .1 .0), r .1 .1)) w in
             let n' = not-past s' (place-map (λ u m r. r .0) w') in
             and-i test rest (e .1 n') (span-by xs (and-r here each t) s' n' .1 w'),
