@@ -31,15 +31,19 @@ later f g = cond (less f g) g f
 abbrev pub earlier : Fraction → Fraction → Fraction
 earlier f g = cond (less g f) g f
 
+-- what is less is at most
 pub at-most-less : (f g : Fraction) → T (less f g) → AtMost f g
 at-most-less f g t = le-of-lt (ltb→lt (f .top * g .bottom) (g .top * f .bottom) t)
 
+-- of two fractions one is less, or the other is at most it
 pub at-most-other : (f g : Fraction) → T (not (less f g)) → AtMost g f
 at-most-other f g t = nltb→le (f .top * g .bottom) (g .top * f .bottom) t
 
+-- and not both
 pub not-at-most : (f g : Fraction) → T (less f g) → AtMost g f → ⊥
 not-at-most f g t = not-le-of-lt (ltb→lt (f .top * g .bottom) (g .top * f .bottom) t)
 
+-- from f ≤ g and g ≤ h follows f ≤ h
 pub at-most-trans : (f g h : Fraction) → 0 < g .bottom → AtMost f g → AtMost g h → AtMost f h
 at-most-trans f g h G i j =
     let i' = mul-le-mul-right (h .bottom) i in

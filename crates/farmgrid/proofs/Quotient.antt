@@ -8,8 +8,8 @@ use native.Mathlib.Nat.{add-zero, mul-one, zero-mul, one-mul, mul-comm, mul-pos,
 use native.Mathlib.Nat.{le-trans, le-of-eq, le-antisymm, lt-of-le-of-lt, lt-of-not-le, not-le-of-lt}
 use native.Mathlib.Nat.{mul-le-mul-right, mul-le-mul-left, mul-lt-mul-of-pos-right, le-of-mul-le-mul-right}
 use native.Mathlib.Omega.{arith}
-use mathlib.Core.Bool.{Bool, true, false, not}
-use lib.Dec.{T, T-not, lit<, lit≤}
+use mathlib.Core.Bool.{Bool, true, false}
+use lib.Dec.{T, lit<, lit≤}
 use lib.IntN.{pos}
 use lib.Pow.{pow-pos, pow-mono}
 use lib.Ieee.{Float, binary64, size, unlike, round, lt, le}
@@ -135,9 +135,6 @@ module _ {x y : Float} {a b c d : ℕ} (g : Frac x a b) (h : Frac y c d) (w : b 
     λ t. not-lt (λ n. not-le-of-lt (strict (h .bottom) (g .bottom) (h .proper) (g .proper) (omega arith) n) (le-units g h .0 t)),
     λ t. le-units g h .1 (order (g .bottom) (h .bottom) (g .proper) (h .proper) t),
   )
-
-  pub nlt-frac : T (not (lt x y)) → c * b ≤ a * d
-  nlt-frac t = not-lt (λ n. T-not (lt x y) t (lt-frac .1 n))
 
 -- what holds of each of two of them where its fraction is at most the other's holds of the smaller; and so for the larger
 module _ (P : Float → Type 0) {x y : Float} {a b c d : ℕ} (g : Frac x a b) (h : Frac y c d) (w : b * d < 2 ^ 52) where

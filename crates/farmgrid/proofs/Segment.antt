@@ -1,7 +1,7 @@
 -- On the farm grid the point verdict is yes exactly where the point is in the view, and the segment verdict exactly where some exact
 -- point of the segment is, for any number of segment planes.
 -- The idea: plane by plane the engine compares rounded crossings as `Span` compares the fractions, so that it leaves some of the segment
--- exactly where that does.
+-- exactly where that does. Assumes nothing.
 use mathlib.Core.Path.{_≡_, refl}
 use mathlib.Core.Logic.{_↔_, _⊎_, inl, inr, Iff·trans, Iff·symm}
 use mathlib.Core.Bool.{Bool, true, false, _&&_, _||_}

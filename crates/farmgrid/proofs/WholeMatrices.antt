@@ -1,5 +1,5 @@
--- Operations on whole matrices are exact, by bounds of their numbers: the product, the transpose, and a direction, a point and a homogeneous
--- point through a matrix, which need be no placement and may be singular. The idea: numbers of size at most a and b have products of at most
+-- Operations on whole matrices are exact, by bounds of their numbers: the product, the transpose, and a point and a homogeneous point through
+-- a matrix, which need be no placement and may be singular. The idea: numbers of size at most a and b have products of at most
 -- a * b, and all is exact while the sums of these stay within 2 ^ 53. Assumes nothing.
 use mathlib.Core.Path.{_≡_, subst}
 use Prim.Native.Nat.{ℕ, _+_, _*_, _^_, _≤_, _<_}
@@ -19,7 +19,7 @@ use Rattle.matrix.specs.Constants.{positiveZero, one}
 use Rattle.matrix.specs.Vec.{axis, axis4, dot, dot4}
 use Rattle.matrix.specs.Matrix.{entry, rowTimes, product, transpose}
 use Rattle.matrix.specs.Transform as Transform
-use Rattle.matrix.specs.Transform.{column, moved, direction, affine, divisor, homogeneous}
+use Rattle.matrix.specs.Transform.{column, moved, affine, divisor, homogeneous}
 use Rattle.farmgrid.specs.Placement.{WholeVec, WholeVec4, WholeMatrix, Within}
 use Rattle.farmgrid.specs.Placement.{dot4ℤ, columnℤ, turnedℤ, movedℤ, productℤ}
 use Rattle.farmgrid.proofs.QuarterTurns.{transposeℤ, last-moved}
@@ -32,7 +32,7 @@ pub record Sized (b : ℕ) (f : ℕ → ℕ → ℤ) : Type 0 where
 pub sized-fit : {b : ℕ} {m : Mat4d} {f : ℕ → ℕ → ℤ} → WholeMatrix m f → Sized b f → (i j : ℕ) → i < 4 → j < 4 → Fit (entry m i j) (f i j) b
 sized-fit M F i j h k = record { whole = M .at i j h k; size = F .size i j h k }
 
--- ---- points of coordinates of size at most a, and directions, through a matrix of numbers of size at most b
+-- ---- points of coordinates of size at most a through a matrix of numbers of size at most b
 module _ {a b : ℕ} (l : a * b + a * b + a * b + b ≤ 2 ^ 53) {m : Mat4d} {f : ℕ → ℕ → ℤ} (M : WholeMatrix m f) (F : Sized b f)
     {v : Vec3d} {p : ℕ → ℤ} (W : WholeVec v p) (P : Within a p) where
   turned-fit : (j : ℕ) → j < 4 → Fit (dot v (column m j)) (turnedℤ f p j) (a * b + a * b + a * b)
@@ -40,9 +40,6 @@ module _ {a b : ℕ} (l : a * b + a * b + a * b + b ≤ 2 ^ 53) {m : Mat4d} {f :
 
   moved-fit : (j : ℕ) → j < 4 → Fit (moved m v j) (movedℤ f p j) (a * b + a * b + a * b + b)
   moved-fit j h = fit-sum (turned-fit j h) (sized-fit M F 3 j (lit< tt) h) l
-
-  pub direction-computed : WholeVec (direction m v) (turnedℤ f p)
-  direction-computed = whole-vec3 (λ j. dot v (column m j)) (λ j h. turned-fit j (omega arith) .whole)
 
   pub affine-computed : WholeVec (affine m v) (movedℤ f p)
   affine-computed = whole-vec3 (moved m v) (λ j h. moved-fit j (omega arith) .whole)
