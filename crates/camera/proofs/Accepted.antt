@@ -6,7 +6,7 @@ use mathlib.Core.List.{List}
 use native.Mathlib.Omega.{arith}
 use lib.Dec.{T}
 use lib.Ieee.{Float, binary32, fits}
-use Rattle.number.specs.Answer.{Reply, refuse, numberOf, unless, has, leaving}
+use Rattle.number.specs.Answer.{Reply, refuse, numberOf, unless, has, leaving, replied}
 use Rattle.number.specs.Format.{narrowOf}
 use Rattle.number.specs.Slice.{allFinite}
 use Rattle.number.specs.declared.answer.Refusal.the-variants.{NotFinite}
@@ -15,10 +15,9 @@ use Rattle.matrix.specs.Inverse.{inverse}
 use Rattle.matrix.specs.Matrix.{matrixOf}
 use Rattle.matrix.specs.declared.inverse.Inverted.{Inverted}
 use Rattle.matrix.specs.declared.inverse.Inverted.the-variants.{Matrix, Singular}
-use Rattle.verdict.specs.Calls.{replied}
-use Rattle.verdict.specs.Projection.{recovered}
-use Rattle.verdict.specs.declared.projection.Recovered.{Recovered}
-use Rattle.verdict.specs.declared.projection.Recovered.the-variants.{Params, NotAProjection}
+use Rattle.projection.specs.Projection.{recovered}
+use Rattle.projection.specs.declared.projection.Recovered.{Recovered}
+use Rattle.projection.specs.declared.projection.Recovered.the-variants.{Params, NotAProjection}
 use Rattle.camera.specs.declared.camera.Camera.{Camera}
 use Rattle.camera.specs.declared.camera.Set.{Set}
 use Rattle.camera.specs.declared.camera.Set.the-variants.{To, Refused}
@@ -50,7 +49,7 @@ good (Matrix m) (Params p) focal h =
 
 -- ---- the call
 
-abbrev answer : Bool → Bool → Set → List Float → Reply
+abbrev answer : Bool → Bool → Set → List Float → Reply Float
 answer inputs room s out = unless inputs (refuse 1 out) (unless room (refuse 2 out) (replied (setNumbers s) out))
 
 accepted : (inputs room : Bool) (s : Set) (out : List Float) → Good s → answer inputs room s out .status ≡ 0 → AcceptedRecord (answer inputs room s out .out)

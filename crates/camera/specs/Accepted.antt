@@ -5,6 +5,7 @@ use mathlib.Core.List.{List, [], _∷_}
 use lib.Dec.{T}
 use lib.ListN.{length, drop}
 use lib.Ieee.{Float, binary32, fits}
+use Rattle.number.specs.Limits.{cameraLength}
 use Rattle.number.specs.Format.{narrowOf}
 use Rattle.number.specs.Slice.{allFinite}
 use Rattle.camera.specs.Camera.{cameraCall}
@@ -21,7 +22,7 @@ Each K (x ∷ xs) = K x × Each K xs
 
 -- a record of 24 finite numbers, of which the seven behind the kind are values of binary32
 pub record AcceptedRecord (s : List Float) : Type 0 where
-  pub numbers : length s ≡ 24
+  pub numbers : length s ≡ cameraLength
   pub finite : allFinite s ≡ true
   pub singles : Each Single (drop 17 s)
 

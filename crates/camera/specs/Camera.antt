@@ -3,7 +3,8 @@
 use mathlib.Core.Bool.{_&&_}
 use mathlib.Core.List.{List, [], _∷_, _++_}
 use lib.Ieee.{Float}
-use Rattle.number.specs.Answer.{Reply, Outcome, refused, result, numberOf, unless, has}
+use Rattle.number.specs.Limits.{matrixLength, cameraLength}
+use Rattle.number.specs.Answer.{Reply, Outcome, refused, result, numberOf, unless, has, attempting}
 use Rattle.number.specs.Arithmetic.{_⊕_, _⊗_, _⊘_}
 use Rattle.number.specs.Format.{narrowOf, widenOf}
 use Rattle.number.specs.Slice.{allFinite}
@@ -14,13 +15,12 @@ use Rattle.matrix.specs.Inverse.{inverse}
 use Rattle.matrix.specs.declared.matrix.Mat4d.{Mat4d}
 use Rattle.matrix.specs.declared.inverse.Inverted.{Inverted}
 use Rattle.matrix.specs.declared.inverse.Inverted.the-variants.{Matrix, Singular}
-use Rattle.verdict.specs.Calls.{attempting}
-use Rattle.verdict.specs.Projection.{kindNumber, width, height, recovered}
-use Rattle.verdict.specs.declared.projection.Projection.{Projection}
-use Rattle.verdict.specs.declared.projection.Projection.the-variants.{Perspective, Orthographic}
-use Rattle.verdict.specs.declared.projection.ProjectionParams.{ProjectionParams}
-use Rattle.verdict.specs.declared.projection.Recovered.{Recovered}
-use Rattle.verdict.specs.declared.projection.Recovered.the-variants.{Params, NotAProjection}
+use Rattle.projection.specs.Projection.{kindNumber, width, height, recovered}
+use Rattle.projection.specs.declared.projection.Projection.{Projection}
+use Rattle.projection.specs.declared.projection.Projection.the-variants.{Perspective, Orthographic}
+use Rattle.projection.specs.declared.projection.ProjectionParams.{ProjectionParams}
+use Rattle.projection.specs.declared.projection.Recovered.{Recovered}
+use Rattle.projection.specs.declared.projection.Recovered.the-variants.{Params, NotAProjection}
 use Rattle.camera.specs.declared.camera.Camera.{Camera}
 use Rattle.camera.specs.declared.camera.Set.{Set}
 use Rattle.camera.specs.declared.camera.Set.the-variants.{To, Refused}
@@ -90,6 +90,6 @@ abbrev pub setNumbers : Set → Outcome (List Float)
 setNumbers (To c) = result (numbers c)
 setNumbers (Refused r) = refused (numberOf r)
 
-unfoldable pub cameraCall : List Float → List Float → Float → List Float → Reply
+unfoldable pub cameraCall : List Float → List Float → Float → List Float → Reply Float
 cameraCall view projection focal out =
-    attempting (has 16 view && has 16 projection) 24 (setNumbers (cameraFrom (matrixOf view) (matrixOf projection) focal)) out
+    attempting (has matrixLength view && has matrixLength projection) cameraLength (setNumbers (cameraFrom (matrixOf view) (matrixOf projection) focal)) out

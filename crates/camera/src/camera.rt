@@ -8,10 +8,10 @@ use number::answer::Refusal;
 use number::format::narrow;
 use number::format::widen;
 use number::slice;
-use verdict::projection::Projection;
-use verdict::projection::ProjectionParams;
-use verdict::projection::Recovered;
-use verdict::projection::kind_number;
+use projection::projection::Projection;
+use projection::projection::ProjectionParams;
+use projection::projection::Recovered;
+use projection::projection::kind_number;
 
 // The transform carries camera space into the world. The apertures, their offsets and the focal length are in tenths of a world
 // unit, near and far in world units.

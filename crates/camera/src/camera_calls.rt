@@ -7,6 +7,8 @@ use crate::camera::Set;
 use matrix::matrix::Mat4d;
 use number::answer::Refusal;
 use number::answer::Written;
+use number::limits::CAMERA_LENGTH;
+use number::limits::MATRIX_LENGTH;
 
 // The camera of a view and a projection. A refused one leaves the record as it was.
 pub fn set_from_view_and_projection(
@@ -17,13 +19,13 @@ pub fn set_from_view_and_projection(
 ) -> Written
     ensures { λ r. ⌜ reply r (now (out .exit)) ≡ cameraCall (now (view .entry)) (now (projection .entry)) «focal_length» (now (out .entry)) ⌝ }
 {
-    if view.len() != 16 {
+    if view.len() != MATRIX_LENGTH {
         return Written::Refused(Refusal::InputLength);
     }
-    if projection.len() != 16 {
+    if projection.len() != MATRIX_LENGTH {
         return Written::Refused(Refusal::InputLength);
     }
-    if out.len() != 24 {
+    if out.len() != CAMERA_LENGTH {
         return Written::Refused(Refusal::OutputLength);
     }
     match Camera::set_from_view_and_projection(

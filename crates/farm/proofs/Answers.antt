@@ -1,22 +1,23 @@
 -- What a call's slots say of a file's answer. Assumes nothing.
 use mathlib.Core.Path.{_≡_, refl, sym, ap, _∙_}
-use mathlib.Core.Bool.{Bool, true, false, cond}
-use mathlib.Core.List.{List, [], _∷_, _++_, map}
+use mathlib.Core.Bool.{Bool, true, false}
+use mathlib.Core.List.{List, [], _∷_, map}
 use Prim.Native.Nat.{ℕ, _-_, _<_, _≤_}
 use native.Mathlib.Omega.{arith}
-use borrow.Author.Tests.{eq-eqb, leb-true}
+use borrow.Author.Tests.{eq-eqb}
 use lib.Dec.{leb}
-use lib.ListN.{length, length-append, length-map, take, replicate}
+use lib.ListN.{length, length-map, take, replicate}
 use lib.Seq.{take-at}
+use Rattle.number.specs.Limits.{largestFile}
 use Rattle.number.specs.Answer.{Outcome, refused, result, unless}
-use Rattle.verdict.specs.Volume.{isCount}
-use Rattle.farm.specs.Directory.{largestFile, sectionCount, boxSections, wellFormed}
-use Rattle.farm.specs.FarmFile.{volumeThere, countNumber, sized, allFlagged, inView, checked, farmFile, slotCount, slotOf, noBox, slots, Listing, listing, listed, farmFileCall}
-use Rattle.farm.specs.Lines.{decimal, linesFrom, refusedWord, refusedLine, linesOf, inserted, textRoom, Printed, printed, linesCall, isYes}
+use Rattle.verdict.specs.View.{isCount}
+use Rattle.farm.specs.Directory.{sectionCount, boxSections, wellFormed}
+use Rattle.number.specs.Slots.{unused}
+use Rattle.number.proofs.Filled.{length-slots}
+use Rattle.farm.specs.FarmFile.{volumeThere, countNumber, sized, allFlagged, inView, checked, farmFile, slotCount, slotOf, slots, Listing, listing, listed, farmFileCall}
+use Rattle.farm.specs.Lines.{linesFrom, refusedLine, linesOf, isYes}
 use Rattle.farm.proofs.SectionsLeft.{as-many}
-use Rattle.farm.proofs.Slots.{length-slots}
 use Rattle.farm.proofs.Placed.{at-most}
-use Rattle.farm.proofs.Texts.{length-inserted, short-decimal, short-lines}
 
 -- ---- the checks of a file, one after the other
 
@@ -83,7 +84,7 @@ verdicts (true ∷ vs) = ap (λ (l : List Bool). true ∷ l) (verdicts vs)
 verdicts (false ∷ vs) = ap (λ (l : List Bool). false ∷ l) (verdicts vs)
 
 read-back : (vs : List Bool) → map isYes (take (length vs) (slots vs)) ≡ vs
-read-back vs = ap (map isYes) (take-at (map slotOf vs) (replicate (slotCount - length vs) noBox) (length vs) (length-map vs slotOf)) ∙ verdicts vs
+read-back vs = ap (map isYes) (take-at (map slotOf vs) (replicate (slotCount - length (map slotOf vs)) unused) (length vs) (length-map vs slotOf)) ∙ verdicts vs
 
 pub record Shown (o : Outcome (List Bool)) (n : ℕ) (l : List ℕ) : Type 0 where
   pub all : n ≤ length l
@@ -98,7 +99,7 @@ shown b (result vs) out n l a e =
     let m : n ≡ length vs = cc in
     let s = ap (λ (x : Listing). x .out) e in
     let h = few b vs a in record {
-      all = omega (arith, m, h, ap length s ∙ length-slots vs h);
+      all = omega (arith, m, h, ap length s ∙ length-slots slotCount (map slotOf vs) (omega (arith, length-map vs slotOf, h)));
       few = omega (arith, m, h);
       lines = ap (λ (k : ℕ). linesFrom 1 (map isYes (take k l))) m ∙ ap (λ (t : List ℕ). linesFrom 1 (map isYes (take (length vs) t))) s ∙ ap (linesFrom 1) (read-back vs);
     }
@@ -114,27 +115,3 @@ module _ (b out : List ℕ) (q : length out ≡ slotCount) (l : List ℕ) where
       by-case : (o : Outcome (List Bool)) → farmFile b ≡ o → listing (refused k) l ≡ listed o out → (k < 100) × (refusedLine k ≡ linesOf o)
       by-case (refused j) a f = let g = ap (λ (x : Listing). x .boxes) f in let z : k ≡ j = cc in (omega (arith, small-number b j a, z), ap refusedLine z)
       by-case (result vs) a f = let g = ap (λ (x : Listing). x .boxes) f in let z : _≡_ {A = ℕ} 0 1 = cc in absurd (omega (arith, z))
-
--- ---- how long the lines are
-
-short-refused : (n : ℕ) → length (refusedLine n) ≤ 11
-unfolding refusedLine
-short-refused n = omega (arith, length-append (refusedWord ++ decimal n) (10 ∷ []), length-append refusedWord (decimal n), short-decimal n)
-
-short-text : (b : List ℕ) (o : Outcome (List Bool)) → farmFile b ≡ o → length (linesOf o) ≤ textRoom
-unfolding linesOf
-short-text b (refused k) a = omega (arith, short-refused k)
-short-text b (result vs) a = omega (arith, short-lines 1 vs, few b vs a)
-
--- what a call answers is within the text that it leaves
-pub within-text : (b t : List ℕ) (r : ℕ) (l : List ℕ) → printed r l ≡ linesCall b t → r ≤ length l
-unfolding linesCall
-within-text b t r l e = by-room (leb textRoom (length t)) (λ q. leb-true textRoom (length t) q) e
-  where
-    by-room : (f : Bool) → (f ≡ true → textRoom ≤ length t) → printed r l ≡ cond f (printed (length (linesOf (farmFile b))) (inserted t 0 (linesOf (farmFile b)))) (printed 0 t) → r ≤ length l
-    by-room true h q =
-        let s = linesOf (farmFile b) in
-        let room = short-text b (farmFile b) refl in
-        let put = ap (λ (p : Printed). length (p .text)) q ∙ length-inserted t 0 s (omega (arith, h refl, room)) in
-        omega (arith, h refl, ap (λ (p : Printed). p .size) q, room, put)
-    by-room false h q = omega (arith, ap (λ (p : Printed). p .size) q)

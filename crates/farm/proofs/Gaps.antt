@@ -11,15 +11,17 @@ use lib.Dec.{eqb, leb}
 use lib.ListN.{length, getD, take, drop, length-take, length-drop}
 use lib.Seq.{ext-getD, getD-take, getD-drop}
 use lib.Ieee.{Float, binary64, ofBits}
+use Rattle.number.specs.Limits.{boxLength, fewestPlanes, largestFile, fewestSections, mostSections}
+use Rattle.number.specs.Every.{every}
 use Rattle.number.specs.Answer.{Outcome, refused, result, unless}
 use Rattle.number.specs.Bytes.{littleEndian, wordAt, numberAt, numbersAt}
-use Rattle.verdict.specs.BBox.{boxOf as loadedBox}
+use Rattle.verdict.specs.BBox.{boxOf}
 use Rattle.verdict.specs.BBoxCalls.{flagged}
-use Rattle.verdict.specs.Volume.{fewestPlanes, volumeLength, wholePart, isCount, planesOf}
-use Rattle.verdict.specs.Frustum.{boxOf}
+use Rattle.verdict.specs.View.{volumeLength, wholePart, isCount, planesOf}
+use Rattle.verdict.specs.Frustum.{boxInView}
 use Rattle.farm.specs.declared.directory.Section.{Section}
-use Rattle.farm.specs.Directory.{largestFile, fewestSections, mostSections, sectionCount, sectionAt, sectionsFrom, volumeSection, boxSections, directoryEnd, endOf, numbersOf, inOrder, wellFormed}
-use Rattle.farm.specs.FarmFile.{every, volumeThere, countNumber, planeCount, sized, allFlagged, inView, checked, farmFile}
+use Rattle.farm.specs.Directory.{sectionCount, sectionAt, sectionsFrom, volumeSection, boxSections, directoryEnd, endOf, numbersOf, inOrder, wellFormed}
+use Rattle.farm.specs.FarmFile.{volumeThere, countNumber, planeCount, sized, allFlagged, inView, checked, farmFile}
 use Rattle.farm.specs.Reading.{AgreeOutsideGaps, GapsUnread, AnsweredApart}
 use Rattle.farm.proofs.Placed.{at-least, placed, apart}
 use Rattle.farm.proofs.Answers.{well-formed}
@@ -138,15 +140,15 @@ module _ (b c : List ℕ) (a : AgreeOutsideGaps b c) where
       same-sizes : sized b ≡ sized c
       unfolding sized
       same-sizes =
-          ap (λ (x : Float). eqb (volumeSection b .size) (8 * volumeLength (wholePart x)) && every (λ s. eqb (s .size) (8 * 23)) (boxSections b)) same-number
-          ∙ ap (λ (s : Section). eqb (s .size) (8 * volumeLength (planeCount c)) && every (λ s. eqb (s .size) (8 * 23)) (boxSections b)) same-volume
-          ∙ ap (λ (ss : List Section). eqb (volumeSection c .size) (8 * volumeLength (planeCount c)) && every (λ s. eqb (s .size) (8 * 23)) ss) same-boxes
+          ap (λ (x : Float). eqb (volumeSection b .size) (8 * volumeLength (wholePart x)) && every (λ s. eqb (s .size) (8 * boxLength)) (boxSections b)) same-number
+          ∙ ap (λ (s : Section). eqb (s .size) (8 * volumeLength (planeCount c)) && every (λ s. eqb (s .size) (8 * boxLength)) (boxSections b)) same-volume
+          ∙ ap (λ (ss : List Section). eqb (volumeSection c .size) (8 * volumeLength (planeCount c)) && every (λ s. eqb (s .size) (8 * boxLength)) ss) same-boxes
 
       view-same : (k : ℕ) → k < count → inView b (sectionAt b k) ≡ inView c (sectionAt b k)
       view-same k h =
-          ap (λ (x : Float). boxOf (planesOf (numbersOf b (volumeSection b)) (wholePart x)) (loadedBox (numbersOf b (sectionAt b k)))) same-number
-          ∙ ap (λ (v : List Float). boxOf (planesOf v (planeCount c)) (loadedBox (numbersOf b (sectionAt b k)))) volume-same
-          ∙ ap (λ (x : List Float). boxOf (planesOf (numbersOf c (volumeSection c)) (planeCount c)) (loadedBox x)) (numbers-same k h)
+          ap (λ (x : Float). boxInView (planesOf (numbersOf b (volumeSection b)) (wholePart x)) (boxOf (numbersOf b (sectionAt b k)))) same-number
+          ∙ ap (λ (v : List Float). boxInView (planesOf v (planeCount c)) (boxOf (numbersOf b (sectionAt b k)))) volume-same
+          ∙ ap (λ (x : List Float). boxInView (planesOf (numbersOf c (volumeSection c)) (planeCount c)) (boxOf x)) (numbers-same k h)
 
       same-views : map (inView b) (boxSections b) ≡ map (inView c) (boxSections c)
       same-views = same-map b count (inView b) (inView c) view-same 1 (count - 1) (omega (arith, two)) ∙ ap (map (inView c)) same-boxes

@@ -7,31 +7,24 @@ use native.Mathlib.Omega.{arith}
 use borrow.Author.Tests.{leb-true, eqb-true}
 use lib.Dec.{leb, eqb}
 use lib.ListN.{length}
-use Rattle.verdict.specs.Volume.{volumeLength}
+use Rattle.number.specs.Limits.{boxLength, fewestSections, mostSections}
+use Rattle.number.specs.Every.{every}
+use Rattle.number.proofs.Tests.{both-hold}
+use Rattle.verdict.specs.View.{volumeLength}
 use Rattle.verdict.specs.BBoxCalls.{flagged}
 use Rattle.farm.specs.declared.directory.Section.{Section}
-use Rattle.farm.specs.Directory.{fewestSections, mostSections, sectionCount, sectionAt, sectionsFrom, volumeSection, boxSections, directoryEnd, endOf, numbersOf, inOrder, wellFormed}
-use Rattle.farm.specs.FarmFile.{every, planeCount, sized, allFlagged}
-
--- ---- a conjunction that holds
-
-first : (a b : Bool) → (a && b) ≡ true → a ≡ true
-first true b e = refl
-first false b e = e
-
-second : (a b : Bool) → (a && b) ≡ true → b ≡ true
-second true b e = e
-second false b e = let z : _≡_ {A = ℕ} 0 1 = cc in absurd (omega (arith, z))
+use Rattle.farm.specs.Directory.{sectionCount, sectionAt, sectionsFrom, volumeSection, boxSections, directoryEnd, endOf, numbersOf, inOrder, wellFormed}
+use Rattle.farm.specs.FarmFile.{planeCount, sized, allFlagged}
 
 -- ---- a test that all sections pass
 
 module _ (b : List ℕ) (test : Section → Bool) where
   each-from : (i n k : ℕ) → every test (sectionsFrom b i n) ≡ true → k < n → test (sectionAt b (i + k)) ≡ true
   unfolding every sectionsFrom
-  each-from i (suc n) zero e h = let z : i ≡ i + 0 = omega arith in ap (λ (m : ℕ). test (sectionAt b m)) (sym z) ∙ first (test (sectionAt b i)) _ e
+  each-from i (suc n) zero e h = let z : i ≡ i + 0 = omega arith in ap (λ (m : ℕ). test (sectionAt b m)) (sym z) ∙ both-hold (test (sectionAt b i)) _ e .0
   each-from i (suc n) (suc k) e h =
       let z : suc i + k ≡ i + suc k = omega arith in
-      ap (λ (m : ℕ). test (sectionAt b m)) (sym z) ∙ each-from (suc i) n k (second (test (sectionAt b i)) _ e) (omega arith)
+      ap (λ (m : ℕ). test (sectionAt b m)) (sym z) ∙ each-from (suc i) n k (both-hold (test (sectionAt b i)) _ e .1) (omega arith)
   each-from i zero k e h = absurd (omega arith)
 
   -- of the boxes of a directory of n sections
@@ -48,15 +41,15 @@ module _ (b : List ℕ) (end : ℕ) where
   unfolding inOrder sectionsFrom
   placed-from from i (suc n) zero e h =
       let s = sectionAt b i in
-      let ends = first (leb from (s .offset) && leb (endOf s) end) _ e in
-      let p = leb-true _ _ (first (leb from (s .offset)) _ ends) in
-      let q = leb-true _ _ (second (leb from (s .offset)) _ ends) in
+      let ends = both-hold (leb from (s .offset) && leb (endOf s) end) _ e .0 in
+      let p = leb-true _ _ (both-hold (leb from (s .offset)) _ ends .0) in
+      let q = leb-true _ _ (both-hold (leb from (s .offset)) _ ends .1) in
       let z : i ≡ i + 0 = omega arith in
       subst (λ (m : ℕ). (from ≤ sectionAt b m .offset) × (endOf (sectionAt b m) ≤ end)) z (p, q)
   placed-from from i (suc n) (suc k) e h =
       let s = sectionAt b i in
-      let p : from ≤ s .offset = leb-true _ _ (first (leb from (s .offset)) _ (first (leb from (s .offset) && leb (endOf s) end) _ e)) in
-      let r = second (leb from (s .offset) && leb (endOf s) end) _ e in
+      let p : from ≤ s .offset = leb-true _ _ (both-hold (leb from (s .offset)) _ (both-hold (leb from (s .offset) && leb (endOf s) end) _ e .0) .0) in
+      let r = both-hold (leb from (s .offset) && leb (endOf s) end) _ e .1 in
       let later = placed-from (endOf s) (suc i) n k r (omega arith) in
       let z : suc i + k ≡ i + suc k = omega arith in
       subst (λ (m : ℕ). (from ≤ sectionAt b m .offset) × (endOf (sectionAt b m) ≤ end)) z (omega (arith, p, later), later .1)
@@ -67,14 +60,14 @@ module _ (b : List ℕ) (end : ℕ) where
   unfolding inOrder sectionsFrom
   apart-from from i (suc n) zero (suc k) e g h =
       let s = sectionAt b i in
-      let r = second (leb from (s .offset) && leb (endOf s) end) _ e in
+      let r = both-hold (leb from (s .offset) && leb (endOf s) end) _ e .1 in
       let later = placed-from (endOf s) (suc i) n k r (omega arith) in
       let y : i ≡ i + 0 = omega arith in
       let z : suc i + k ≡ i + suc k = omega arith in
       subst (λ (m : ℕ). endOf (sectionAt b m) ≤ sectionAt b (i + suc k) .offset) y (subst (λ (m : ℕ). endOf s ≤ sectionAt b m .offset) z (later .0))
   apart-from from i (suc n) (suc j) (suc k) e g h =
       let s = sectionAt b i in
-      let r = second (leb from (s .offset) && leb (endOf s) end) _ e in
+      let r = both-hold (leb from (s .offset) && leb (endOf s) end) _ e .1 in
       let later = apart-from (endOf s) (suc i) n j k r (omega arith) (omega arith) in
       let y : suc i + j ≡ i + suc j = omega arith in
       let z : suc i + k ≡ i + suc k = omega arith in
@@ -93,17 +86,17 @@ module _ (b : List ℕ) (w : wellFormed b ≡ true) where
 
   ordered : inOrder (directoryEnd (sectionCount b)) (length b) (sectionsFrom b 0 (sectionCount b)) ≡ true
   unfolding wellFormed
-  ordered = second (counted && held) _ w
+  ordered = both-hold (counted && held) _ w .1
 
   limits : counted ≡ true
   unfolding wellFormed
-  limits = first counted held (first (counted && held) _ w)
+  limits = both-hold counted held (both-hold (counted && held) _ w .0) .0
 
   pub at-least : fewestSections ≤ sectionCount b
-  at-least = leb-true _ _ (second (leb 4 (length b)) _ (first (leb 4 (length b) && leb fewestSections (sectionCount b)) _ limits))
+  at-least = leb-true _ _ (both-hold (leb 4 (length b)) _ (both-hold (leb 4 (length b) && leb fewestSections (sectionCount b)) _ limits .0) .1)
 
   pub at-most : sectionCount b ≤ mostSections
-  at-most = leb-true _ _ (second (leb 4 (length b) && leb fewestSections (sectionCount b)) _ limits)
+  at-most = leb-true _ _ (both-hold (leb 4 (length b) && leb fewestSections (sectionCount b)) _ limits .1)
 
   pub placed : (i : ℕ) → i < sectionCount b → (directoryEnd (sectionCount b) ≤ sectionAt b i .offset) × (endOf (sectionAt b i) ≤ length b)
   placed i h =
@@ -122,11 +115,11 @@ module _ (b : List ℕ) (w : wellFormed b ≡ true) where
 module _ (b : List ℕ) (s : sized b ≡ true) where
   pub volume-sized : volumeSection b .size ≡ 8 * volumeLength (planeCount b)
   unfolding sized
-  volume-sized = eqb-true _ _ (first (eqb (volumeSection b .size) (8 * volumeLength (planeCount b))) _ s)
+  volume-sized = eqb-true _ _ (both-hold (eqb (volumeSection b .size) (8 * volumeLength (planeCount b))) _ s .0)
 
-  pub box-sized : (i : ℕ) → 0 < i → i < sectionCount b → sectionAt b i .size ≡ 8 * 23
+  pub box-sized : (i : ℕ) → 0 < i → i < sectionCount b → sectionAt b i .size ≡ 8 * boxLength
   unfolding sized
-  box-sized i p h = eqb-true _ _ (each-box b (λ s. eqb (s .size) (8 * 23)) (sectionCount b) i (second (eqb (volumeSection b .size) (8 * volumeLength (planeCount b))) _ s) p h)
+  box-sized i p h = eqb-true _ _ (each-box b (λ s. eqb (s .size) (8 * boxLength)) (sectionCount b) i (both-hold (eqb (volumeSection b .size) (8 * volumeLength (planeCount b))) _ s .1) p h)
 
 pub box-flagged : (b : List ℕ) → allFlagged b ≡ true → (i : ℕ) → 0 < i → i < sectionCount b → flagged (numbersOf b (sectionAt b i)) ≡ true
 unfolding allFlagged

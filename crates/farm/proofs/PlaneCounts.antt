@@ -5,13 +5,13 @@ use Prim.Native.Nat.{ℕ}
 use native.Mathlib.Omega.{arith}
 use lib.Ieee.{Float}
 use Rattle.number.specs.Answer.{Outcome, refused, result, unless}
-use Rattle.verdict.specs.Volume.{wholePart, isCount, countOf}
+use Rattle.verdict.specs.View.{wholePart, isCount, planeCountOf}
 use Rattle.verdict.proofs.PlaneCount.{a-count, count-within}
 use Rattle.farm.specs.Steps.{saidBy}
 
 module _ (x : Float) where
-  is : unless (isCount x) (refused 12) (result (wholePart x)) ≡ countOf x
-  unfolding countOf
+  is : unless (isCount x) (refused 12) (result (wholePart x)) ≡ planeCountOf x
+  unfolding planeCountOf
   is = refl
 
   by-test : (t : Bool) (w n : ℕ) → result n ≡ unless t (refused 12) (result w) → n ≡ cond t w 0
@@ -22,10 +22,10 @@ module _ (x : Float) where
   by-refusal true w k e = let z : _≡_ {A = ℕ} 0 1 = cc in absurd (omega (arith, z))
   by-refusal false w k e = refl
 
-  pub counted : (n : ℕ) → result n ≡ countOf x → n ≡ saidBy x
+  pub counted : (n : ℕ) → result n ≡ planeCountOf x → n ≡ saidBy x
   counted n e = by-test (isCount x) (wholePart x) n (e ∙ sym is)
 
-  pub not-counted : (k : ℕ) → refused k ≡ countOf x → 0 ≡ saidBy x
+  pub not-counted : (k : ℕ) → refused k ≡ planeCountOf x → 0 ≡ saidBy x
   not-counted k e = by-refusal (isCount x) (wholePart x) k (e ∙ sym is)
 
   pub said-whole : isCount x ≡ true → saidBy x ≡ wholePart x

@@ -8,9 +8,10 @@ use native.Mathlib.Omega.{arith}
 use borrow.Author.Tests.{le-leb, lt-leb}
 use lib.Dec.{leb}
 use lib.ListN.{length}
+use Rattle.number.specs.Every.{every}
+use Rattle.number.proofs.Every.{first-fails, first-holds}
 use Rattle.farm.specs.declared.directory.Section.{Section}
 use Rattle.farm.specs.Directory.{sectionAt, sectionsFrom, endOf, inOrder}
-use Rattle.farm.specs.FarmFile.{every}
 
 pub as-many : (b : List ℕ) (i n : ℕ) → length (sectionsFrom b i n) ≡ n
 unfolding sectionsFrom
@@ -52,15 +53,11 @@ module _ (b : List ℕ) (n i : ℕ) where
   -- ---- a test of all, which those left decide
 
   module _ (test : Section → Bool) where
-    one-tested : i < n → every test left ≡ (test (sectionAt b i) && every test behind)
-    unfolding every
-    one-tested h = ap (every test) (next h)
-
     pub fails : i < n → test (sectionAt b i) ≡ false → false ≡ every test left
-    fails h e = sym (one-tested h ∙ ap (λ (t : Bool). t && every test behind) e)
+    fails h e = first-fails test (sectionAt b i) behind e ∙ sym (ap (every test) (next h))
 
     pub holds : i < n → test (sectionAt b i) ≡ true → every test behind ≡ every test left
-    holds h e = sym (one-tested h ∙ ap (λ (t : Bool). t && every test behind) e)
+    holds h e = first-holds test (sectionAt b i) behind e ∙ sym (ap (every test) (next h))
 
     pub all-hold : n ≤ i → true ≡ every test left
     unfolding every

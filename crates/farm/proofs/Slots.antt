@@ -1,59 +1,39 @@
 -- The slots of boxes, filled one after the other; a box's numbers and verdict by its section. Assumes nothing.
 use mathlib.Core.Path.{_≡_, refl, sym, ap, subst, _∙_}
-use mathlib.Core.Bool.{Bool, true}
+use mathlib.Core.Bool.{Bool}
 use mathlib.Core.List.{List, [], _∷_, _++_, map, map-append, append-assoc}
 use Prim.Native.Nat.{ℕ, suc, _+_, _-_, _*_, _/_, _<_, _≤_}
 use native.Mathlib.Omega.{arith}
 use lib.ListN.{length, length-append, length-map, length-replicate, replicate, set}
 use lib.Seq.{set-at}
-use borrow.Author.Tests.{eq-eqb}
 use lib.Ieee.{Float}
-use Rattle.number.specs.Answer.{Outcome, refused, result, unless}
+use Rattle.number.specs.Limits.{boxLength, fewestPlanes, mostPlanes}
+use Rattle.number.specs.Answer.{result}
+use Rattle.number.specs.Slots.{unused, slotsOf}
 use Rattle.number.specs.Slice.{at}
 use Rattle.number.specs.Bytes.{numberAt, numbersAt, loaded}
+use Rattle.number.proofs.Filled.{none-filled, one-filled}
 use Rattle.number.proofs.Words.{as-many, number-at, all-there}
-use Rattle.verdict.specs.BBox.{boxOf as loadedBox}
-use Rattle.verdict.specs.BBoxCalls.{flagged}
-use Rattle.verdict.specs.Volume.{fewestPlanes, mostPlanes, volumeLength, countOf, counting, planesHeld, planesOf}
-use Rattle.verdict.specs.Frustum.{boxOf}
+use Rattle.verdict.specs.View.{volumeLength, planeCountOf, planesHeld}
 use Rattle.verdict.specs.FrustumCalls.{intersectsBoxCall}
 use Rattle.verdict.proofs.PlaneCount.{a-count, count-within}
 use Rattle.verdict.proofs.PlanesHeld.{all-held}
+use Rattle.verdict.proofs.VerdictCalls.{box-answered}
 use Rattle.farm.specs.declared.directory.Section.{Section}
 use Rattle.farm.specs.Directory.{sectionCount, sectionAt, sectionsFrom, volumeSection, endOf, numbersOf}
-use Rattle.farm.specs.FarmFile.{countNumber, planeCount, inView, slotCount, slotOf, slotFor, noBox, slots}
+use Rattle.farm.specs.FarmFile.{countNumber, planeCount, inView, slotCount, slotOf, slotFor, slots}
 use Rattle.farm.specs.Steps.{Ready}
 use Rattle.farm.proofs.SectionsLeft.{as-many as as-many-sections, last-section}
 use Rattle.farm.proofs.Placed.{at-least, placed, volume-sized, box-sized, box-flagged}
 
--- a box whose record and flag are right, by a view that holds n planes
-answered : (v x : List Float) (n : ℕ) → result n ≡ planesHeld v true → length x ≡ 23 → flagged x ≡ true → intersectsBoxCall v x ≡ result (boxOf (planesOf v n) (loadedBox x))
-unfolding intersectsBoxCall
-answered v x n e q f =
-    let g = eq-eqb (length x) 23 q in
-    ap (λ (t : Bool). counting (planesHeld v t) (λ k. unless (flagged x) (refused 3) (result (boxOf (planesOf v k) (loadedBox x))))) g
-    ∙ ap (λ (o : Outcome ℕ). counting o (λ k. unless (flagged x) (refused 3) (result (boxOf (planesOf v k) (loadedBox x))))) (sym e)
-    ∙ ap (λ (t : Bool). unless t (refused 3) (result (boxOf (planesOf v n) (loadedBox x)))) f
-
-pub none-judged : (n : ℕ) → n ≡ slotCount → replicate n noBox ≡ slots []
-none-judged n e = ap (λ (k : ℕ). replicate k noBox) e
+pub none-judged : (n : ℕ) → n ≡ slotCount → replicate n unused ≡ slots []
+none-judged n e = none-filled slotCount n e
 
 one-judged : (vs : List Bool) (v : Bool) → length vs < slotCount → set (slots vs) (length vs) (slotOf v) ≡ slots (vs ++ (v ∷ []))
 one-judged vs v h =
-    let k = length vs in
-    let some = map slotOf vs in
-    let x = slotOf v in
-    let room : slotCount - k ≡ suc (slotCount - (k + 1)) = omega arith in
-    ap (λ (n : ℕ). set (some ++ replicate n noBox) k x) room
-    ∙ set-at some noBox (replicate (slotCount - (k + 1)) noBox) x k (length-map vs slotOf)
-    ∙ sym (append-assoc some (x ∷ []) (replicate (slotCount - (k + 1)) noBox))
-    ∙ ap (λ (l : List ℕ). l ++ replicate (slotCount - (k + 1)) noBox) (sym (map-append slotOf vs (v ∷ [])))
-    ∙ ap (λ (n : ℕ). map slotOf (vs ++ (v ∷ [])) ++ replicate (slotCount - n) noBox) (sym (length-append vs (v ∷ [])))
-
-pub length-slots : (vs : List Bool) → length vs ≤ slotCount → length (slots vs) ≡ slotCount
-length-slots vs h =
-    length-append (map slotOf vs) _ ∙ ap (λ (k : ℕ). k + length (replicate (slotCount - length vs) noBox)) (length-map vs slotOf)
-    ∙ ap (λ (k : ℕ). length vs + k) (length-replicate (slotCount - length vs) noBox) ∙ omega arith
+    let m = length-map vs slotOf in
+    ap (λ (k : ℕ). set (slots vs) k (slotOf v)) (sym m) ∙ one-filled slotCount (map slotOf vs) (slotOf v) (omega (arith, m))
+    ∙ ap (slotsOf slotCount) (sym (map-append slotOf vs (v ∷ [])))
 
 module _ (b : List ℕ) where
   abbrev pub judged : ℕ → List Bool
@@ -79,7 +59,7 @@ module _ (b : List ℕ) (r : Ready b) where
   abbrev volume : List Float
   volume = numbersOf b (volumeSection b)
 
-  said : result (planeCount b) ≡ countOf (countNumber b)
+  said : result (planeCount b) ≡ planeCountOf (countNumber b)
   said = a-count (countNumber b) (planeCount b) (r .count) refl
 
   pub within : (fewestPlanes ≤ planeCount b) × (planeCount b ≤ mostPlanes)
@@ -97,10 +77,10 @@ module _ (b : List ℕ) (r : Ready b) where
       ∙ ap (numberAt b) (omega arith)
 
   -- the record holds the planes that its count says
-  held : result (planeCount b) ≡ planesHeld volume true
+  held : result (planeCount b) ≡ planesHeld volume
   held =
-      all-held volume true (omega (arith, volume-length, within)) refl (planeCount b)
-      (said ∙ ap countOf (sym count-first)) volume-length
+      all-held volume (omega (arith, volume-length, within)) (planeCount b)
+      (said ∙ ap planeCountOf (sym count-first)) volume-length
 
   -- the volume's numbers, by what was put into room for as many
   pub volume-is : (sec : Section) → sec ≡ volumeSection b → (v : List Float) → length v ≡ volumeLength (planeCount b) → loaded b (sec .offset) v ≡ volume
@@ -112,21 +92,21 @@ module _ (b : List ℕ) (r : Ready b) where
       ∙ ap (numbersAt b (sec .offset)) (e ∙ sym volume-numbers ∙ ap (λ (t : Section). t .size / 8) (sym q)) ∙ ap (numbersOf b) q
 
   module _ (i : ℕ) (h : i + 1 < sectionCount b) (sec : Section) (q : sec ≡ sectionAt b (i + 1)) where
-    size-is : sec .size ≡ 8 * 23
+    size-is : sec .size ≡ 8 * boxLength
     size-is = ap (λ (t : Section). t .size) q ∙ box-sized b (r .sizes) (i + 1) (omega arith) h
 
-    numbers-are : numbersAt b (sec .offset) 23 ≡ numbersOf b (sectionAt b (i + 1))
+    numbers-are : numbersAt b (sec .offset) boxLength ≡ numbersOf b (sectionAt b (i + 1))
     numbers-are = sym (ap (λ (n : ℕ). numbersAt b (sec .offset) (n / 8)) size-is) ∙ ap (numbersOf b) q
 
-    pub inside : sec .offset + 8 * 23 ≤ length b
+    pub inside : sec .offset + 8 * boxLength ≤ length b
     inside =
         let e = subst (λ (t : Section). endOf t ≤ length b) (sym q) (placed b (r .formed) (i + 1) h .1) in
         omega (arith, e, size-is)
 
     -- the slot of the box, by what `intersects_bbox` answers
-    pub slot-is : (v : List Float) (x : ℕ) → v ≡ volume → x ≡ slotFor (intersectsBoxCall v (numbersAt b (sec .offset) 23)) → x ≡ slotOf (inView b (sectionAt b (i + 1)))
+    pub slot-is : (v : List Float) (x : ℕ) → v ≡ volume → x ≡ slotFor (intersectsBoxCall v (numbersAt b (sec .offset) boxLength)) → x ≡ slotOf (inView b (sectionAt b (i + 1)))
     slot-is v x e p =
         let n = numbersOf b (sectionAt b (i + 1)) in
-        let size : length n ≡ 23 = ap length (sym numbers-are) ∙ as-many b (sec .offset) 23 in
-        p ∙ ap (λ (t : List Float). slotFor (intersectsBoxCall t (numbersAt b (sec .offset) 23))) e ∙ ap (λ (t : List Float). slotFor (intersectsBoxCall volume t)) numbers-are
-        ∙ ap slotFor (answered volume n (planeCount b) held size (box-flagged b (r .flags) (i + 1) (omega arith) h))
+        let size : length n ≡ boxLength = ap length (sym numbers-are) ∙ as-many b (sec .offset) boxLength in
+        p ∙ ap (λ (t : List Float). slotFor (intersectsBoxCall t (numbersAt b (sec .offset) boxLength))) e ∙ ap (λ (t : List Float). slotFor (intersectsBoxCall volume t)) numbers-are
+        ∙ ap slotFor (box-answered volume (planeCount b) held n size (box-flagged b (r .flags) (i + 1) (omega arith) h))

@@ -33,6 +33,10 @@ length-inserted t at a h =
     let front = as-long t at (omega (arith, h)) a [] in
     length-append (take at t ++ a) (drop (at + length a) t) ∙ omega (arith, front, length-drop (at + length a) t)
 
+-- what was put in front of a text is the front of it
+pub in-front : (t s : List ℕ) (n : ℕ) → n ≡ length s → take n (inserted t 0 s) ≡ s
+in-front t s n e = take-at s (drop (0 + length s) t) n (sym e)
+
 -- ---- lines
 
 pub short-decimal : (n : ℕ) → length (decimal n) ≤ 2

@@ -5,19 +5,9 @@ use mathlib.Core.List.{List, [], _∷_}
 use lib.Dec.{leb}
 use lib.ListN.{length}
 use lib.Ieee.{Float}
+use Rattle.number.specs.Limits.{fewestSections, mostSections}
 use Rattle.number.specs.Bytes.{wordAt, numbersAt}
 use Rattle.farm.specs.declared.directory.Section.{Section}
-
--- "65,536 bytes"
-abbrev pub largestFile : ℕ
-largestFile = 65536
-
--- "the count is outside 2 to 64"
-abbrev pub fewestSections : ℕ
-fewestSections = 2
-
-abbrev pub mostSections : ℕ
-mostSections = 64
 
 -- ---- the directory
 

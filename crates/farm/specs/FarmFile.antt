@@ -1,25 +1,21 @@
 -- What a farm file comes to: a verdict for each of its boxes, or the number of its refusal; and what a call leaves. Definitions only.
 use Prim.Native.Nat.{ℕ, _-_, _*_}
-use mathlib.Core.Bool.{Bool, true, cond, _&&_}
-use mathlib.Core.List.{List, [], _∷_, _++_, map}
+use mathlib.Core.Bool.{Bool, cond, _&&_}
+use mathlib.Core.List.{List, map}
 use lib.Dec.{eqb, leb}
-use lib.ListN.{length, replicate}
+use lib.ListN.{length}
 use lib.Ieee.{Float}
+use Rattle.number.specs.Limits.{boxLength, fewestPlanes, largestFile, mostSections}
+use Rattle.number.specs.Every.{every}
 use Rattle.number.specs.Bytes.{numberAt}
-use Rattle.number.specs.Answer.{Outcome, refused, result, unless, numberOf}
-use Rattle.verdict.specs.BBox.{boxOf as loadedBox}
+use Rattle.number.specs.Slots.{unused, slotsOf}
+use Rattle.number.specs.Answer.{Outcome, refused, result, unless}
+use Rattle.verdict.specs.BBox.{boxOf}
 use Rattle.verdict.specs.BBoxCalls.{flagged}
-use Rattle.verdict.specs.Volume.{fewestPlanes, volumeLength, wholePart, isCount, planesOf}
-use Rattle.verdict.specs.Frustum.{boxOf}
+use Rattle.verdict.specs.View.{volumeLength, wholePart, isCount, planesOf}
+use Rattle.verdict.specs.Frustum.{boxInView}
 use Rattle.farm.specs.declared.directory.Section.{Section}
-use Rattle.farm.specs.declared.farm_file.Counted.{Counted}
-use Rattle.farm.specs.declared.farm_file.Counted.the-variants.{Boxes, Refused}
-use Rattle.farm.specs.Directory.{largestFile, mostSections, wellFormed, volumeSection, boxSections, numbersOf}
-
--- every section passes the test
-unfoldable pub every : (Section → Bool) → List Section → Bool
-every test [] = true
-every test (s ∷ ss) = test s && every test ss
+use Rattle.farm.specs.Directory.{wellFormed, volumeSection, boxSections, numbersOf}
 
 -- ---- the volume: "a volume section below 49 numbers is 10, then 12 is tested, then 10 for every other length"
 
@@ -37,7 +33,7 @@ planeCount b = wholePart (countNumber b)
 -- no "section length differs from its record"
 unfoldable pub sized : List ℕ → Bool
 unfolding every
-sized b = eqb (volumeSection b .size) (8 * volumeLength (planeCount b)) && every (λ s. eqb (s .size) (8 * 23)) (boxSections b)
+sized b = eqb (volumeSection b .size) (8 * volumeLength (planeCount b)) && every (λ s. eqb (s .size) (8 * boxLength)) (boxSections b)
 
 -- ---- the boxes
 
@@ -48,7 +44,7 @@ allFlagged b = every (λ s. flagged (numbersOf b s)) (boxSections b)
 
 -- whether the box of a section is in view: the verdict of `intersects_bbox`
 abbrev pub inView : List ℕ → Section → Bool
-inView b s = boxOf (planesOf (numbersOf b (volumeSection b)) (planeCount b)) (loadedBox (numbersOf b s))
+inView b s = boxInView (planesOf (numbersOf b (volumeSection b)) (planeCount b)) (boxOf (numbersOf b s))
 
 -- ---- the checks
 
@@ -75,15 +71,12 @@ slotCount = mostSections - 1
 abbrev pub slotOf : Bool → ℕ
 slotOf v = cond v 1 0
 
-abbrev pub noBox : ℕ
-noBox = 4294967295
-
 abbrev pub slotFor : Outcome Bool → ℕ
-slotFor (refused k) = noBox
+slotFor (refused k) = unused
 slotFor (result v) = slotOf v
 
 abbrev pub slots : List Bool → List ℕ
-slots vs = map slotOf vs ++ replicate (slotCount - length vs) noBox
+slots vs = slotsOf slotCount (map slotOf vs)
 
 -- What a call leaves: how many boxes there are or the number of its refusal, and what the slots hold.
 pub record Listing : Type 0 where
@@ -92,10 +85,6 @@ pub record Listing : Type 0 where
 
 abbrev pub listing : Outcome ℕ → List ℕ → Listing
 listing n out = record { boxes = n; out = out }
-
-abbrev pub countOf : Counted → Outcome ℕ
-countOf (Boxes n) = result n
-countOf (Refused r) = refused (numberOf r)
 
 -- a refusal preserves the slots
 abbrev pub listed : Outcome (List Bool) → List ℕ → Listing

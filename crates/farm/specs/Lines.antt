@@ -1,11 +1,12 @@
 -- The lines that a farm file gives, as bytes in ASCII. Definitions only.
-use Prim.Native.Nat.{ℕ, suc, _+_, _*_, _/_, _%_}
+-- A file is any list of bytes, whole numbers below 256; nothing is assumed of it.
+use Prim.Native.Nat.{ℕ, suc, _+_, _/_, _%_}
 use mathlib.Core.Bool.{Bool, cond}
 use mathlib.Core.List.{List, [], _∷_, _++_, map}
-use lib.Dec.{eqb, leb, ltb}
+use lib.Dec.{eqb, ltb}
 use lib.ListN.{length, take, drop}
 use Rattle.number.specs.Answer.{Outcome, refused, result}
-use Rattle.farm.specs.FarmFile.{slotCount, farmFile}
+use Rattle.farm.specs.declared.lines.Text.{Text}
 
 -- a number below 100: its digits from '0' on
 unfoldable pub decimal : ℕ → List ℕ
@@ -39,30 +40,15 @@ unfolding refusedLine linesFrom
 linesOf (refused n) = refusedLine n
 linesOf (result vs) = linesFrom 1 vs
 
--- ---- a call
+-- the lines of a text: its first bytes
+abbrev pub shown : Text → List ℕ
+shown t = take (t .size) (t .bytes)
+
+-- ---- what private functions promise one another: bytes put into a text, and the verdicts of slots
 
 -- what a text holds after bytes were put there from a place on
 abbrev pub inserted : List ℕ → ℕ → List ℕ → List ℕ
 inserted text at s = take at text ++ s ++ drop (at + length s) text
-
--- room for the lines of every file: a line has 7 bytes at most
-abbrev pub textRoom : ℕ
-textRoom = 7 * slotCount
-
--- What a call leaves: how many bytes it put in front of the text, and what that holds.
-pub record Printed : Type 0 where
-  pub size : ℕ
-  pub text : List ℕ
-
-abbrev pub printed : ℕ → List ℕ → Printed
-printed n text = record { size = n; text = text }
-
--- none where there is no room
-unfoldable pub linesCall : List ℕ → List ℕ → Printed
-unfolding farmFile linesOf
-linesCall b text = let s = linesOf (farmFile b) in cond (leb textRoom (length text)) (printed (length s) (inserted text 0 s)) (printed 0 text)
-
--- ---- what private functions promise one another: the verdicts of slots
 
 abbrev pub isYes : ℕ → Bool
 isYes slot = eqb slot 1

@@ -4,7 +4,7 @@ use mathlib.Core.Path.{_≡_}
 use mathlib.Core.Bool.{true, cond}
 use mathlib.Core.List.{List}
 use lib.Ieee.{Float}
-use Rattle.verdict.specs.Volume.{isCount, wholePart}
+use Rattle.verdict.specs.View.{isCount, wholePart}
 use Rattle.farm.specs.Directory.{wellFormed}
 use Rattle.farm.specs.FarmFile.{countNumber, sized, allFlagged}
 

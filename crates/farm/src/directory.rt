@@ -2,12 +2,11 @@
 ghost use mathlib.Core.Path.{_≡_};
 ghost use Prim.Native.Nat.{_<_, _≤_};
 ghost use lib.ListN.{length};
-ghost use Rattle.farm.specs.Directory.{mostSections, sectionAt, sectionsFrom, directoryEnd, endOf, inOrder, wellFormed};
+ghost use Rattle.number.specs.Limits.{mostSections};
+ghost use Rattle.farm.specs.Directory.{sectionAt, sectionsFrom, directoryEnd, endOf, inOrder, wellFormed};
 use number::bytes::word_32;
-
-const FEWEST_SECTIONS: usize = 2;
-
-pub(crate) const MOST_SECTIONS: usize = 64;
+use number::limits::FEWEST_SECTIONS;
+use number::limits::MOST_SECTIONS;
 
 pub struct Section {
     pub offset: u32,

@@ -1,45 +1,25 @@
 // What a farm file comes to: a verdict for each of its boxes, or why it is refused.
 ghost use mathlib.Core.Path.{_≡_};
-ghost use Rattle.number.specs.Answer.{lone, put};
-ghost use Rattle.farm.specs.FarmFile.{listing, countOf, farmFileCall};
+ghost use Rattle.number.specs.Answer.{countedOf};
+ghost use Rattle.farm.specs.FarmFile.{listing, farmFileCall};
 use crate::directory::is_well_formed;
 use crate::sections::are_flagged;
 use crate::sections::are_sized;
 use crate::sections::has_volume;
 use crate::sections::judge;
 use crate::sections::plane_count;
+use number::answer::Counted;
 use number::answer::Refusal;
 use number::bytes::word_32;
-
-const LARGEST_FILE: usize = 65536;
+use number::limits::LARGEST_FILE;
+use number::limits::MOST_SECTIONS;
 
 // A slot for each box that a file can have.
-const SLOT_COUNT: usize = 63;
+const SLOT_COUNT: usize = MOST_SECTIONS - 1;
 
-// How many boxes a file has, or why it is refused.
-pub enum Counted {
-    Boxes(u32),
-    Refused(Refusal),
-}
-
-impl Counted {
-    // The count, where there is one, to where it is lent; 0, or the number of the refusal.
-    pub fn put(self, out: &mut u32) -> u32
-        ensures { λ r. ⌜ lone r (now (out .exit)) ≡ put (countOf self) (now (out .entry)) ⌝ }
-    {
-        match self {
-            Counted::Boxes(n) => {
-                *out = n;
-                0
-            }
-            Counted::Refused(r) => r.number(),
-        }
-    }
-}
-
-// The verdict of each box to its slot: 1 for a box in view and 0 for one that is not.
+// How many boxes a file has, and the verdict of each to its slot: 1 for a box in view and 0 for one that is not.
 pub fn farm_file(file: &[u8], out: &mut [u32]) -> Counted
-    ensures { λ r. ⌜ listing (countOf r) (now (out .exit)) ≡ farmFileCall (now (file .entry)) (now (out .entry)) ⌝ }
+    ensures { λ r. ⌜ listing (countedOf r) (now (out .exit)) ≡ farmFileCall (now (file .entry)) (now (out .entry)) ⌝ }
 {
     if LARGEST_FILE < file.len() {
         return Counted::Refused(Refusal::InputLength);
@@ -64,5 +44,5 @@ pub fn farm_file(file: &[u8], out: &mut [u32]) -> Counted
         return Counted::Refused(Refusal::Kind);
     }
     judge(file, planes, out);
-    Counted::Boxes(word_32(file, 0) - 1)
+    Counted::Count(word_32(file, 0) - 1)
 }

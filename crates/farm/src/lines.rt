@@ -3,13 +3,19 @@ ghost use mathlib.Core.Path.{_≡_};
 ghost use mathlib.Core.List.{_++_, map};
 ghost use Prim.Native.Nat.{_+_, _*_, _<_, _≤_};
 ghost use lib.ListN.{length, take};
-ghost use Rattle.farm.specs.FarmFile.{slotCount};
-ghost use Rattle.farm.specs.Lines.{decimal, line, linesFrom, refusedLine, inserted, printed, linesCall, isYes};
-use crate::farm_file::Counted;
+ghost use Rattle.farm.specs.FarmFile.{slotCount, farmFile};
+ghost use Rattle.farm.specs.Lines.{decimal, line, linesFrom, refusedLine, linesOf, shown, inserted, isYes};
 use crate::farm_file::farm_file;
+use number::answer::Counted;
 
-// Room for the lines of any file.
-const TEXT_ROOM: usize = 441;
+// Room for the lines of any file: 7 bytes for each box that it can have.
+pub const TEXT_ROOM: usize = 441;
+
+// Lines: the first bytes, so many.
+pub struct Text {
+    pub bytes: [u8; TEXT_ROOM],
+    pub size: usize,
+}
 
 // Bytes to a place of a text; answers the place behind them.
 fn put(text: &mut [u8], at: usize, bytes: &[u8]) -> usize
@@ -68,17 +74,31 @@ fn put_refused(text: &mut [u8], number: u32) -> usize
     put(text, numbered, b"\n")
 }
 
-// The lines that a file gives, to the front of a text with room for those of any file; answers how many bytes they have.
-pub fn lines(file: &[u8], text: &mut [u8]) -> usize
-    ensures { λ r. ⌜ printed r (now (text .exit)) ≡ linesCall (now (file .entry)) (now (text .entry)) ⌝ }
+// The lines that a file gives.
+pub fn lines(file: &[u8]) -> Text
+    ensures { λ r. ⌜ shown r ≡ linesOf (farmFile (now (file .entry))) ⌝ }
 {
-    if text.len() < TEXT_ROOM {
-        return 0;
-    }
+    let mut bytes = [0u8; TEXT_ROOM];
     let mut slots = [0u32; 63];
     let answer = farm_file(file, &mut slots);
     match answer {
-        Counted::Boxes(n) => put_lines(text, &slots, n as usize),
-        Counted::Refused(r) => put_refused(text, r.number()),
+        Counted::Count(n) => {
+            let size = put_lines(&mut bytes, &slots, n as usize);
+            Text { bytes, size }
+        }
+        Counted::Refused(r) => {
+            let size = put_refused(&mut bytes, r.number());
+            Text { bytes, size }
+        }
     }
+}
+
+// The first bytes of some, or all of them where there are no more.
+pub fn front(bytes: &[u8], size: usize) -> &[u8]
+    ensures { λ r. ⌜ now r ≡ take size (now (bytes .entry)) ⌝ }
+{
+    if bytes.len() < size {
+        return bytes;
+    }
+    &bytes[..size]
 }

@@ -3,36 +3,39 @@ ghost use mathlib.Core.Path.{_≡_};
 ghost use mathlib.Core.Bool.{true};
 ghost use mathlib.Core.List.{map};
 ghost use Prim.Native.Nat.{_+_, _*_, _≤_};
-ghost use lib.ListN.{length, replicate};
+ghost use lib.ListN.{length};
+ghost use Rattle.number.specs.Limits.{boxLength, mostPlanes};
 ghost use Rattle.number.specs.Answer.{verdictOf};
 ghost use Rattle.number.specs.Bytes.{numbersAt};
 ghost use Rattle.verdict.specs.FrustumCalls.{intersectsBoxCall};
-ghost use Rattle.verdict.specs.Volume.{mostPlanes, volumeLength};
+ghost use Rattle.verdict.specs.View.{volumeLength};
 ghost use Rattle.farm.specs.Directory.{wellFormed, volumeSection, boxSections, numbersOf};
-ghost use Rattle.farm.specs.FarmFile.{volumeThere, countNumber, planeCount, sized, allFlagged, inView, slotCount, slotFor, noBox, slots};
+ghost use Rattle.farm.specs.FarmFile.{volumeThere, countNumber, planeCount, sized, allFlagged, inView, slotCount, slotFor, slots};
 ghost use Rattle.farm.specs.Steps.{Ready, saidBy};
 use crate::directory::section_at;
 use number::answer::Verdict;
 use number::bytes::load;
 use number::bytes::number_at;
 use number::bytes::word_32;
+use number::limits::BOX_LENGTH;
+use number::limits::FEWEST_PLANES;
+use number::limits::FLAG_PLACE;
+use number::slots::UNUSED;
+use number::slots::clear;
 use verdict::bbox::is_flag;
 use verdict::frustum_calls::intersects_bbox;
-use verdict::volume::Counted;
-use verdict::volume::FEWEST_PLANES;
-use verdict::volume::count_of;
-use verdict::volume::volume_length;
+use verdict::view::Held;
+use verdict::view::plane_count_of;
+use verdict::view::volume_length;
 
 // The bytes of a number.
 const NUMBER_SIZE: usize = 8;
 
-// The bytes of a box, 23 numbers.
-const BOX_SIZE: u32 = 184;
+// The bytes of a box.
+const BOX_SIZE: u32 = NUMBER_SIZE as u32 * BOX_LENGTH as u32;
 
 // Where the flag, the last of a box's numbers, stands among its bytes.
-const FLAG_START: usize = 176;
-
-const NO_BOX: u32 = 4294967295;
+const FLAG_START: usize = NUMBER_SIZE * FLAG_PLACE;
 
 // Whether the volume's section has the numbers of the fewest planes at least.
 pub(crate) fn has_volume(file: &[u8]) -> bool
@@ -47,9 +50,9 @@ pub(crate) fn plane_count(file: &[u8]) -> u32
     ensures { λ r. ⌜ r ≡ saidBy (countNumber (now (file .entry))) ⌝ }
 {
     let start = section_at(file, 0).offset as usize;
-    match count_of(number_at(file, start)) {
-        Counted::Planes(count) => count,
-        Counted::Refused(_) => 0,
+    match plane_count_of(number_at(file, start)) {
+        Held::Planes(count) => count,
+        Held::Refused(_) => 0,
     }
 }
 
@@ -97,29 +100,18 @@ fn slot(verdict: Verdict) -> u32
     match verdict {
         Verdict::Yes => 1,
         Verdict::No => 0,
-        Verdict::Refused(_) => NO_BOX,
+        Verdict::Refused(_) => UNUSED,
     }
 }
 
 // The slot of the box that starts at a place.
 fn judged(volume: &[f64], file: &[u8], start: usize) -> u32
-    requires { ⌜ start + 8 * 23 ≤ length (now file) ⌝ }
-    ensures { λ r. ⌜ r ≡ slotFor (intersectsBoxCall (now (volume .entry)) (numbersAt (now (file .entry)) start 23)) ⌝ }
+    requires { ⌜ start + 8 * boxLength ≤ length (now file) ⌝ }
+    ensures { λ r. ⌜ r ≡ slotFor (intersectsBoxCall (now (volume .entry)) (numbersAt (now (file .entry)) start boxLength)) ⌝ }
 {
-    let mut numbers = [0.0f64; 23];
+    let mut numbers = [0.0f64; BOX_LENGTH];
     load(file, start, &mut numbers);
     slot(intersects_bbox(volume, &numbers))
-}
-
-// No box in any slot.
-fn clear(out: &mut [u32])
-    ensures { λ _. ⌜ now (out .exit) ≡ replicate (length (now (out .entry))) noBox ⌝ }
-{
-    let mut i: usize = 0;
-    while i < out.len() {
-        out[i] = NO_BOX;
-        i += 1;
-    }
 }
 
 // The slots of all boxes, by the numbers of the volume.

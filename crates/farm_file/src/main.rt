@@ -1,12 +1,7 @@
 // Reads a farm file from standard input to its end, and prints its lines: for each box its number and whether it is in view, or
 // that the file is refused.
+use farm::lines::front;
 use farm::lines::lines;
-
-fn print_lines(file: &[u8]) {
-    let mut text = [0u8; 441];
-    let size = lines(file, &mut text);
-    io::write_all(1, &text[..size]);
-}
 
 // Reads on, and answers whether there was more.
 fn passes_more() -> bool {
@@ -26,5 +21,6 @@ fn main() {
     let mut file = [0u8; 65537];
     let size = io::read_full(0, &mut file);
     pass_rest();
-    print_lines(&file[..size]);
+    let text = lines(&file[..size]);
+    io::write_all(1, front(&text.bytes, text.size));
 }

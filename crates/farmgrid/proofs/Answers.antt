@@ -1,53 +1,51 @@
 -- What the operations answer on records of the right lengths: the lengths and the flag pass their tests, and the result is that of the values. Assumes nothing.
-use mathlib.Core.Path.{_≡_, refl, sym}
-use mathlib.Core.Bool.{Bool, true, _&&_}
+use mathlib.Core.Path.{_≡_, sym}
+use mathlib.Core.Bool.{true}
 use mathlib.Core.List.{List}
+use Prim.Native.Nat.{ℕ}
 use native.Mathlib.Omega.{arith}
 use lib.ListN.{length}
 use lib.Ieee.{Float}
-use Rattle.number.specs.Answer.{refused, result, write, has, leaving}
+use Rattle.number.specs.Limits.{boxLength}
+use Rattle.number.specs.Answer.{result, write, leaving}
 use Rattle.number.specs.Slice.{at}
-use Rattle.number.proofs.Refusals.{has-yes, passes}
+use Rattle.number.proofs.Refusals.{has-yes}
 use Rattle.matrix.specs.Vec.{vec3Of, coordinates}
 use Rattle.matrix.specs.Matrix.{matrixOf}
 use Rattle.matrix.specs.Range.{bounds}
 use Rattle.matrix.specs.Transform.{transformed}
 use Rattle.matrix.specs.Calls.{transformCall}
-use Rattle.verdict.specs.BBox.{boxOf, numbers, placed, alignedRange}
-use Rattle.verdict.specs.BBoxCalls.{flagged, transformCall as placedCall, alignedRangeCall}
+use Rattle.verdict.specs.BBox.{boxOf, numbers, transformedBox, alignedRange}
+use Rattle.verdict.specs.BBoxCalls.{flagged, transformBoxCall, alignedRangeCall}
 use Rattle.verdict.specs.declared.plane.Plane.{Plane}
-use Rattle.verdict.specs.Volume.{planesHeld, planesOf}
-use Rattle.verdict.specs.Frustum.{pointOf, segmentOf, boxOf as inView}
+use Rattle.verdict.specs.View.{planesHeld, planesOf}
+use Rattle.verdict.specs.Frustum.{pointInView, segmentInView, boxInView}
 use Rattle.verdict.specs.FrustumCalls.{intersectsPointCall, intersectsSegmentCall, intersectsBoxCall}
-use Rattle.verdict.proofs.PlanesHeld.{counted, all-held}
-use Rattle.farmgrid.specs.FarmGrid.{WholePlane}
-use Rattle.farmgrid.specs.Records.{ViewRecord}
+use Rattle.verdict.proofs.PlanesHeld.{all-held}
+use Rattle.verdict.proofs.VerdictCalls.{point-answered, segment-answered, box-answered}
+use Rattle.farmgrid.specs.Records.{VolumeRecord}
 use Rattle.farmgrid.proofs.Counts.{count-exact}
 
 -- ---- verdicts
 
-module _ {Kind : WholePlane → Type 0} {Ps : List WholePlane} (v : List Float) (W : ViewRecord Kind v Ps) where
+module _ (v : List Float) {n : ℕ} (W : VolumeRecord v n) where
   abbrev planes : List Plane
-  planes = planesOf v (W .count)
+  planes = planesOf v n
 
-  -- the volume passes its checks beside inputs of the right lengths
-  passed : (others : Bool) → others ≡ true → result (W .count) ≡ planesHeld v others
-  passed others e =
-      let n = W .counted .fewest in
-      all-held v others (omega (arith, W .numbers)) e (W .count) (sym (count-exact (at v 0) (W .count) .1 (W .counted))) (W .numbers)
+  -- the volume passes its checks
+  passed : result n ≡ planesHeld v
+  passed =
+      let h = W .counted .fewest in
+      all-held v (omega (arith, W .numbers)) n (sym (count-exact (at v 0) n .1 (W .counted))) (W .numbers)
 
-  pub point-answer : (p : List Float) → length p ≡ 3 → intersectsPointCall v p ≡ result (pointOf planes (vec3Of p))
-  unfolding intersectsPointCall
-  point-answer p h = sym (counted _ _ (W .count) _ (passed (has 3 p) (has-yes 3 p h)) refl)
+  pub point-answer : (p : List Float) → length p ≡ 3 → intersectsPointCall v p ≡ result (pointInView planes (vec3Of p))
+  point-answer = point-answered v n passed
 
-  pub segment-answer : (p q : List Float) → length p ≡ 3 → length q ≡ 3 → intersectsSegmentCall v p q ≡ result (segmentOf planes (vec3Of p) (vec3Of q))
-  unfolding intersectsSegmentCall
-  segment-answer p q h i = sym (counted _ _ (W .count) _ (passed (has 3 p && has 3 q) (λ t. has-yes 3 p h t && has-yes 3 q i t)) refl)
+  pub segment-answer : (p q : List Float) → length p ≡ 3 → length q ≡ 3 → intersectsSegmentCall v p q ≡ result (segmentInView planes (vec3Of p) (vec3Of q))
+  segment-answer = segment-answered v n passed
 
-  pub box-answer : (b : List Float) → length b ≡ 23 → flagged b ≡ true → intersectsBoxCall v b ≡ result (inView planes (boxOf b))
-  unfolding intersectsBoxCall
-  box-answer b h f =
-      sym (counted _ _ (W .count) _ (passed (has 23 b) (has-yes 23 b h)) (passes (flagged b) (refused 3) (result (inView planes (boxOf b))) _ f refl))
+  pub box-answer : (b : List Float) → length b ≡ boxLength → flagged b ≡ true → intersectsBoxCall v b ≡ result (boxInView planes (boxOf b))
+  box-answer = box-answered v n passed
 
 -- ---- operations that write
 
@@ -56,12 +54,12 @@ pub point-moves : (m p out : List Float) → length m ≡ 16 → length p ≡ 3 
 unfolding transformCall leaving
 point-moves m p out h i j = rw (has-yes 16 m h, has-yes 3 p i, has-yes 3 out j)
 
-pub box-moves : (b m out : List Float) → length b ≡ 23 → length m ≡ 16 → length out ≡ 23 → flagged b ≡ true
-    → placedCall b m out ≡ write (numbers (placed (boxOf b) (matrixOf m)))
-unfolding placedCall leaving
-box-moves b m out h i j f = rw (has-yes 23 b h, has-yes 16 m i, has-yes 23 out j, f)
+pub box-moves : (b m out : List Float) → length b ≡ boxLength → length m ≡ 16 → length out ≡ boxLength → flagged b ≡ true
+    → transformBoxCall b m out ≡ write (numbers (transformedBox (boxOf b) (matrixOf m)))
+unfolding transformBoxCall leaving
+box-moves b m out h i j f = rw (has-yes boxLength b h, has-yes 16 m i, has-yes boxLength out j, f)
 
-pub range-writes : (s out : List Float) → length s ≡ 23 → length out ≡ 6 → flagged s ≡ true
+pub range-writes : (s out : List Float) → length s ≡ boxLength → length out ≡ 6 → flagged s ≡ true
     → alignedRangeCall s out ≡ write (bounds (alignedRange (boxOf s)))
 unfolding alignedRangeCall leaving
-range-writes s out h i f = rw (has-yes 23 s h, has-yes 6 out i, f)
+range-writes s out h i f = rw (has-yes boxLength s h, has-yes 6 out i, f)

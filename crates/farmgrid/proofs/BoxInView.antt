@@ -17,7 +17,7 @@ use Rattle.farmgrid.proofs.Singles.{Single, single, single-dot}
 use Rattle.farmgrid.proofs.PlacedRanges.{placed-nonempty}
 use Rattle.verdict.specs.declared.plane.Plane.{Plane}
 use Rattle.verdict.specs.declared.bbox.BBox3d.{BBox3d}
-use Rattle.verdict.specs.Frustum.{boxOf}
+use Rattle.verdict.specs.Frustum.{boxInView}
 use Rattle.farmgrid.specs.FarmGrid.{WholePlane, AxisPlane, WholeBox, GridBox, ArePlanes, IsBox, lowOf, highOf}
 use Rattle.farmgrid.specs.FarmGrid.{ExactPoint, Satisfies, InBox, Share, BoxInView}
 use Rattle.farmgrid.proofs.EveryPlane.{every-of, every-both}
@@ -104,7 +104,7 @@ module _ {B : WholeBox} (G : GridBox B) where
     }
 
 pub box-is : {ps : List Plane} {Ps : List WholePlane} {b : BBox3d} {B : WholeBox} → ArePlanes AxisPlane ps Ps → Share Ps → IsBox b B
-    → T (boxOf ps b) ↔ BoxInView Ps B
+    → T (boxInView ps b) ↔ BoxInView Ps B
 box-is {Ps = Ps} {B = B} hs S g =
     let G = g .grid in
     let X = S .point in

@@ -5,7 +5,7 @@
 -- takes only the coordinate along that axis counts.
 use mathlib.Core.Path.{_≡_, ap, _∙_, subst}
 use mathlib.Core.Logic.{_↔_, Iff·trans, Iff·symm}
-use mathlib.Core.Bool.{Bool, cond}
+use mathlib.Core.Bool.{Bool, not, cond}
 use mathlib.Core.List.{List}
 use Prim.Native.Nat.{ℕ, _+_, _^_, _≤_, _<_}
 use native.Mathlib.Omega.{arith}
@@ -13,6 +13,7 @@ use lib.Dec.{T, eqb, lit<, lit≤}
 use lib.IntN.{ℤ, pos, negℤ, natAbs, _+ℤ_, _-ℤ_, _*ℤ_}
 use lib.Signed.{nonNeg}
 use lib.Ieee.{Float, le, lt, eq, neg, round}
+use Rattle.number.specs.Limits.{gridLimit}
 use Rattle.number.specs.Arithmetic.{_⊘_}
 use Rattle.farmgrid.specs.Whole.{Whole}
 use Rattle.farmgrid.proofs.Integer.{by-test, of-self as self, of-pos, of-neg, of-eq, abs-minus, abs-neg}
@@ -20,11 +21,12 @@ use Rattle.farmgrid.proofs.Exact.{neg-whole, le-whole, over-one}
 use Rattle.farmgrid.proofs.Formula.{Fit}
 use Rattle.matrix.specs.Constants.{positiveZero, one}
 use Rattle.matrix.specs.Vec.{axis, axis4, vec3, dot}
-use Rattle.matrix.specs.Matrix.{transpose}
+use Rattle.matrix.specs.Matrix.{identity, transpose}
 use Rattle.matrix.specs.Transform.{homogeneous}
 use Rattle.matrix.specs.declared.vec.Vec3d.{Vec3d}
 use Rattle.matrix.specs.declared.vec.Vec4d.{Vec4d}
-use Rattle.farmgrid.specs.Placement.{WholeVec, WholeVec4, WholeRange, WholeMatrix, Within, NonEmpty, Placement, gridSize, dotℤ, dot4ℤ, sizes}
+use Rattle.matrix.specs.declared.inverse.Inverted.{Inverted}
+use Rattle.farmgrid.specs.Placement.{WholeVec, WholeVec4, WholeRange, WholeMatrix, Within, NonEmpty, Placement, dotℤ, dot4ℤ, sizes}
 use Rattle.farmgrid.proofs.Signs.{_⊞_, _⊟_, _⊠_, abs-flip}
 use Rattle.farmgrid.proofs.Singles.{three, four, single, single-dot}
 use Rattle.farmgrid.proofs.QuarterTurns.{widen, widen-placement}
@@ -36,8 +38,9 @@ use Rattle.farmgrid.proofs.WholeRanges.{nonempty-whole}
 use Rattle.verdict.specs.declared.plane.Plane.{Plane}
 use Rattle.verdict.specs.declared.bbox.BBox3d.{BBox3d}
 use Rattle.verdict.specs.Plane.{equation, fromEquation, offset, endToward, furthest, reachesPositiveSide, underInverseTranspose}
-use Rattle.verdict.specs.BBox.{boxEpsilon}
-use Rattle.verdict.specs.Frustum.{intoSpace, intoSpaceOf, boxOf}
+use Rattle.verdict.proofs.ReachSum.{reach-by-dot}
+use Rattle.verdict.specs.BBox.{boxEpsilon, flagBeside}
+use Rattle.verdict.specs.Frustum.{intoSpaceOf, boxInView}
 use Rattle.farmgrid.specs.FarmGrid.{WholePlane, AxisPlane, WholeBox, IsPlane, ArePlanes, IsBox, Every}
 use Rattle.farmgrid.proofs.EveryPlane.{every-is}
 use Rattle.farmgrid.proofs.Distance.{same-test, non-negative}
@@ -47,8 +50,8 @@ use Rattle.farmgrid.proofs.BoxReach.{Reaches, inSpace, ahead, distanceI
 pub record Wide (b : BBox3d) (B : WholeBox) : Type 0 where
   pub range : WholeRange (b .range) (B .low) (B .high)
   pub matrix : WholeMatrix (b .matrix) (B .matrix)
-  pub low : Within (gridSize + gridSize) (B .low)
-  pub high : Within (gridSize + gridSize) (B .high)
+  pub low : Within (gridLimit + gridLimit) (B .low)
+  pub high : Within (gridLimit + gridLimit) (B .high)
   pub some : NonEmpty (B .low) (B .high)
   pub placement : Placement (B .matrix)
 
@@ -65,7 +68,8 @@ epsilon-below-one = tt
 -- "The plane tests take a degenerate box as if its matrix were the identity": such a box is not degenerate
 into-space : {b : BBox3d} {B : WholeBox} → Wide b B → intoSpaceOf b ≡ transpose (b .matrix)
 into-space {b} g =
-    ap (intoSpace (b .matrix)) (inverse-whole (g .matrix) (widen-placement (lit≤ tt) (g .placement)) boxEpsilon epsilon-below-one .accepted)
+    ap (λ (i : Inverted). cond (not (flagBeside i .exists)) identity (transpose (b .matrix)))
+    (inverse-whole (g .matrix) (widen-placement (lit≤ tt) (g .placement)) boxEpsilon epsilon-below-one .accepted)
 
 -- ---- the parts of the test, over whole floats
 -- the end of a span that a number points toward; a zero of either sign points to the greater end
@@ -184,12 +188,11 @@ module _ {p : Plane} {P : WholePlane} (h : IsPlane AxisPlane p P) where
         (axis-fit (g .range .max) (g .high) i l)) .whole
 
     carried-exact : T (reachesPositiveSide q (b .range)) ↔ Reaches B P
-    unfolding reachesPositiveSide
     carried-exact =
         let o = g .some in
         let e = reach-in-space P B (g .placement .turn) (h .kind .single) o in
         let r = at-least (distanceIn f P) (dotℤ u (ahead u (B .low) (B .high))) in
-        rw (nonempty-whole (g .range) o)
+        rw (reach-by-dot q (b .range), nonempty-whole (g .range) o)
         (Iff·trans (le-whole distance-whole along-whole) (λ t. record { reach = rw (← e) (r .0 t) }, λ t. r .1 (rw e (t .reach))))
 
     -- the test of the box by the plane
@@ -201,6 +204,6 @@ module _ {b : BBox3d} {B : WholeBox} (g : Wide b B) where
   abbrev test : Plane → Bool
   test p = reachesPositiveSide (underInverseTranspose (intoSpaceOf b) p) (b .range)
 
-  pub box-reaches : {ps : List Plane} {Ps : List WholePlane} → ArePlanes AxisPlane ps Ps → T (boxOf ps b) ↔ Every (Reaches B) Ps
-  unfolding boxOf
+  pub box-reaches : {ps : List Plane} {Ps : List WholePlane} → ArePlanes AxisPlane ps Ps → T (boxInView ps b) ↔ Every (Reaches B) Ps
+  unfolding boxInView
   box-reaches hs = rw (nonempty-whole (g .range) (g .some)) (every-is AxisPlane test (Reaches B) (λ p P h. plane-exact h g) hs)

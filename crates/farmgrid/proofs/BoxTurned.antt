@@ -11,7 +11,7 @@ use Rattle.farmgrid.proofs.Singles.{same-dot}
 use Rattle.farmgrid.proofs.QuarterTurns.{product-moves}
 use Rattle.verdict.specs.declared.plane.Plane.{Plane}
 use Rattle.verdict.specs.declared.bbox.BBox3d.{BBox3d}
-use Rattle.verdict.specs.Frustum.{boxOf}
+use Rattle.verdict.specs.Frustum.{boxInView}
 use Rattle.farmgrid.specs.FarmGrid.{WholePlane, AxisPlane, WholeBox, ArePlanes, IsBox, Every, movedPlane, movedBox}
 use Rattle.farmgrid.proofs.Distance.{gap, same-test}
 use Rattle.farmgrid.proofs.EveryPlane.{every-moved}
@@ -38,6 +38,6 @@ module _ {a : ℕ} {f : ℕ → ℕ → ℤ} (F : PlacementWithin a f) where
   -- floats ps and b of the grid, and floats ps' and b' that are the moved ones and on the grid again
   module _ {ps ps' : List Plane} {Ps : List WholePlane} (hs : ArePlanes AxisPlane ps Ps) (hs' : ArePlanes AxisPlane ps' (map (movedPlane f) Ps))
       {b b' : BBox3d} {B : WholeBox} (g : IsBox b B) (g' : IsBox b' (movedBox f B)) where
-    pub box-turned : boxOf ps' b' ≡ boxOf ps b
-    box-turned = same-test (boxOf ps' b') (boxOf ps b)
+    pub box-turned : boxInView ps' b' ≡ boxInView ps b
+    box-turned = same-test (boxInView ps' b') (boxInView ps b)
         (Iff·trans (box-reaches (grid-wide g') hs') (Iff·trans (all-moved B (g .grid .placement) Ps) (Iff·symm (box-reaches (grid-wide g) hs))))

@@ -1,7 +1,7 @@
 -- Every box that combining makes of grid boxes has the matrix of one of them, a whole range that is not empty and not large, and is placed
 -- as the union of those that it stands for. The idea: the placed range of either candidate of `combine` is the union of the two placed
 -- ranges, so that it does not matter which candidate the volumes choose; and what is placed on the grid is, brought into the space of any
--- placement of the grid, at most twice as large as the grid.
+-- placement of the grid, at most twice as large as the grid. Assumes nothing.
 use mathlib.Core.Path.{_≡_, refl, sym, _∙_, subst}
 use mathlib.Core.Bool.{Bool, true, false, cond}
 use Prim.Native.Nat.{ℕ, _+_, _≤_, _<_}
@@ -10,6 +10,7 @@ use lib.Dec.{T, lit≤}
 use lib.IntN.{ℤ, natAbs}
 use lib.Signed.{_≤ℤ_}
 use lib.Ieee.{lt, round}
+use Rattle.number.specs.Limits.{gridLimit}
 use Rattle.farmgrid.proofs.Integer.{of-self as self, of-le, of-min, of-max, le-is}
 use Rattle.matrix.specs.Constants.{one}
 use Rattle.matrix.specs.Matrix.{product}
@@ -18,7 +19,7 @@ use Rattle.matrix.specs.Range.{union, transformed}
 use Rattle.matrix.specs.declared.matrix.Mat4d.{Mat4d}
 use Rattle.matrix.specs.declared.range.Range3d.{Range3d}
 use Rattle.matrix.specs.declared.inverse.Inverted.the-variants.{Matrix}
-use Rattle.farmgrid.specs.Placement.{WholeRange, WholeMatrix, Within, NonEmpty, PlacementWithin, Placement, GridPoint, gridSize}
+use Rattle.farmgrid.specs.Placement.{WholeRange, WholeMatrix, Within, NonEmpty, PlacementWithin, Placement, GridPoint}
 use Rattle.farmgrid.specs.Placement.{productℤ, placedLow, placedHigh}
 use Rattle.farmgrid.specs.Placement.{smaller as smallerℤ, larger as largerℤ}
 use Rattle.farmgrid.proofs.QuarterTurns.{widen, widen-placement, product-placement}
@@ -28,13 +29,13 @@ use Rattle.farmgrid.proofs.Inverses.{WholeInverse, inverse-whole}
 use Rattle.farmgrid.proofs.WholeRanges.{nonempty-whole, union-whole, transformed-whole}
 use Rattle.farmgrid.proofs.PlacedRanges.{extreme, placed, placed-is, placed-nonempty, placed-within, placed-product, placed-grown}
 use Rattle.verdict.specs.declared.bbox.BBox3d.{BBox3d}
-use Rattle.verdict.specs.BBox.{boxEpsilon, extended, preferred, volume, smaller, merged, held, combined}
+use Rattle.verdict.specs.BBox.{boxEpsilon, flagBeside, extended, preferred, volume, smaller, merged, held, combined}
 use Rattle.farmgrid.specs.FarmGrid.{WholeBox, IsBox}
 use Rattle.farmgrid.proofs.Extents.{extreme-ind, Extent, join, join-comm}
 
 -- twice the size of the grid
 abbrev pub twice : ℕ
-twice = gridSize + gridSize
+twice = gridLimit + gridLimit
 
 -- the range r under the matrix m is placed as the extent e of the grid
 pub record Holds (r : Range3d) (m : Mat4d) (e : Extent) : Type 0 where
@@ -75,7 +76,7 @@ box-holds {B = B} h =
       extent = λ u j h. refl;
       grid = λ u. record {
         size = λ j l.
-            subst (λ (z : ℤ). natAbs z ≤ gridSize) (sym (placed-is (g .placement) u (B .low) (B .high) j l))
+            subst (λ (z : ℤ). natAbs z ≤ gridLimit) (sym (placed-is (g .placement) u (B .low) (B .high) j l))
             (either-within u (g .placed 0 (lit≤ tt)) (g .placed 7 (lit≤ tt)) .size j l);
       };
     }
@@ -84,7 +85,7 @@ box-holds {B = B} h =
 
 module _ {r s : Range3d} {m n : Mat4d} {e f : Extent} (A : Holds r m e) (B : Holds s n f) {i : Mat4d}
     (I : WholeMatrix i (inverseℤ (A .matrix))) where
-  back : PlacementWithin gridSize (inverseℤ (A .matrix))
+  back : PlacementWithin gridLimit (inverseℤ (A .matrix))
   back = inverse-placement (A .placement)
 
   abbrev into : ℕ → ℕ → ℤ
@@ -105,7 +106,7 @@ module _ {r s : Range3d} {m n : Mat4d} {e f : Extent} (A : Holds r m e) (B : Hol
       (widen-placement (lit≤ tt) into-placement) (B .range-is) (widen (lit≤ tt) (B .low-size)) (widen (lit≤ tt) (B .high-size)) (B .some)
 
   on-grid : (u : Bool) → GridPoint (placed u (B .matrix) (B .low) (B .high))
-  on-grid u = record { size = λ j h. subst (λ (z : ℤ). natAbs z ≤ gridSize) (sym (B .extent u j h)) (B .grid u .size j h) }
+  on-grid u = record { size = λ j h. subst (λ (z : ℤ). natAbs z ≤ gridLimit) (sym (B .extent u j h)) (B .grid u .size j h) }
 
   brought-size : (u : Bool) → Within twice (placed u into (B .low) (B .high))
   brought-size u = record {
@@ -153,7 +154,7 @@ inverse-of A = inverse-whole (A .matrix-is) (widen-placement (lit≤ tt) (A .pla
 
 module _ (a b : BBox3d) {e f : Extent} (A : Holds (a .range) (a .matrix) e) (B : Holds (b .range) (b .matrix) f) where
   candidates : (m n : Mat4d) → WholeMatrix m (inverseℤ (A .matrix)) → WholeMatrix n (inverseℤ (B .matrix))
-      → let c = merged a b (Matrix m) (Matrix n) in Holds (c .range) (c .matrix) (join e f)
+      → let c = merged a b (flagBeside (Matrix m)) (flagBeside (Matrix n)) in Holds (c .range) (c .matrix) (join e f)
   unfolding merged smaller extended
   candidates m n M N =
       let x = extended a b m in
@@ -161,7 +162,7 @@ module _ (a b : BBox3d) {e f : Extent} (A : Holds (a .range) (a .matrix) e) (B :
       let Y : Holds (y .range) (y .matrix) (join e f) = subst (Holds (y .range) (y .matrix)) (join-comm f e) (grown-holds B A N) in
       chosen (preferred (volume x) (volume y)) x y (grown-holds A B M) Y
 
-  held-is : held a b ≡ merged a b (Matrix (inverse-of A .matrix)) (Matrix (inverse-of B .matrix))
+  held-is : held a b ≡ merged a b (flagBeside (Matrix (inverse-of A .matrix))) (flagBeside (Matrix (inverse-of B .matrix)))
   unfolding held
   held-is = rw (nonempty-whole (A .range-is) (A .some), nonempty-whole (B .range-is) (B .some), inverse-of A .accepted, inverse-of B .accepted)
 

@@ -1,6 +1,6 @@
 -- The records that combining makes of records of grid boxes: `combine` of two of them, and `aligned_range` of one, is not refused, and
 -- leaves a record again, or the range that the box is placed as. The idea: a box written into its record is read back as it was, its flag
--- a 0 or a 1; the rest is said of boxes.
+-- a 0 or a 1; the rest is said of boxes. Assumes nothing.
 use mathlib.Core.Path.{_≡_, refl, sym, ap, subst}
 use mathlib.Core.Bool.{true, false}
 use mathlib.Core.List.{List}
@@ -10,6 +10,7 @@ use lib.ListN.{length}
 use lib.IntN.{ℤ}
 use lib.Ieee.{Float}
 use lib.Ieee.Bits.{is-true}
+use Rattle.number.specs.Limits.{boxLength}
 use Rattle.number.specs.Answer.{Reply, write}
 use Rattle.farmgrid.specs.Whole.{Whole}
 use Rattle.matrix.specs.Vec.{axis}
@@ -30,7 +31,7 @@ use Rattle.farmgrid.proofs.CombinedBoxes.{Holds, extentOf, box-holds, c
 
 -- the record s is of a box that is placed as the extent e
 pub record Stands (s : List Float) (e : Extent) : Type 0 where
-  pub numbers : length s ≡ 23
+  pub numbers : length s ≡ boxLength
   pub flag : flagged s ≡ true
   pub holds : Holds (boxOf s .range) (boxOf s .matrix) e
 
@@ -45,15 +46,15 @@ written b h = record { numbers = refl; flag = flag-read (b .flag); holds = h }
 -- ---- the calls
 
 -- `combine` of two records, in a slice of its record's length
-module _ {a b : List Float} {e f : Extent} (A : Stands a e) (B : Stands b f) (out : List Float) (room : length out ≡ 23) where
+module _ {a b : List Float} {e f : Extent} (A : Stands a e) (B : Stands b f) (out : List Float) (room : length out ≡ boxLength) where
   writes : combineCall a b out ≡ write (numbers (combined (boxOf a) (boxOf b)))
   writes = combine-writes a b out (A .numbers) (B .numbers) room (A .flag) (B .flag)
 
-  pub combine-accepted : Accepted (combineCall a b out) (λ s. length s ≡ 23)
-  combine-accepted = subst (λ (r : Reply). Accepted r (λ s. length s ≡ 23)) (sym writes) (record { status = refl; left = refl })
+  pub combine-accepted : Accepted (combineCall a b out) (λ s. length s ≡ boxLength)
+  combine-accepted = subst (λ (r : Reply Float). Accepted r (λ s. length s ≡ boxLength)) (sym writes) (record { status = refl; left = refl })
 
   pub combine-stands : Stands (combineCall a b out .out) (join e f)
-  combine-stands = subst (λ (r : Reply). Stands (r .out) (join e f)) (sym writes)
+  combine-stands = subst (λ (r : Reply Float). Stands (r .out) (join e f)) (sym writes)
       (written (combined (boxOf a) (boxOf b)) (combined-holds (boxOf a) (boxOf b) (A .holds) (B .holds)))
 
 -- `aligned_range` of one
@@ -64,23 +65,23 @@ same-range {r} R p q = record {
   max = record { at = λ j h. subst (Whole (axis (r .max) j)) (q j h) (R .max .at j h) };
 }
 
+pub range-whole : {s : List Float} {e : Extent} → Stands s e → WholeRange (alignedRange (boxOf s)) (e false) (e true)
+range-whole S =
+    let H = S .holds in
+    same-range
+    (transformed-whole (H .matrix-is) (widen-placement (lit≤ tt) (H .placement)) (H .range-is) (widen (lit≤ tt) (H .low-size))
+    (widen (lit≤ tt) (H .high-size)) (H .some))
+    (H .extent false) (H .extent true)
+
 module _ {s : List Float} {e : Extent} (S : Stands s e) (out : List Float) (room : length out ≡ 6) where
-  range-is : alignedRangeCall s out ≡ write (bounds (alignedRange (boxOf s)))
+  pub range-is : alignedRangeCall s out ≡ write (bounds (alignedRange (boxOf s)))
   range-is = range-writes s out (S .numbers) room (S .flag)
 
   pub range-status : alignedRangeCall s out .status ≡ 0
-  range-status = ap (λ (r : Reply). r .status) range-is
+  range-status = ap (λ (r : Reply Float). r .status) range-is
 
   pub range-numbers : length (alignedRangeCall s out .out) ≡ 6
-  range-numbers = ap (λ (r : Reply). length (r .out)) range-is
-
-  aligned : WholeRange (alignedRange (boxOf s)) (e false) (e true)
-  aligned =
-      let H = S .holds in
-      same-range
-      (transformed-whole (H .matrix-is) (widen-placement (lit≤ tt) (H .placement)) (H .range-is) (widen (lit≤ tt) (H .low-size))
-      (widen (lit≤ tt) (H .high-size)) (H .some))
-      (H .extent false) (H .extent true)
+  range-numbers = ap (λ (r : Reply Float). length (r .out)) range-is
 
   pub range-exact : WholeRange (rangeOf (alignedRangeCall s out .out)) (e false) (e true)
-  range-exact = subst (λ (r : Reply). WholeRange (rangeOf (r .out)) (e false) (e true)) (sym range-is) aligned
+  range-exact = subst (λ (r : Reply Float). WholeRange (rangeOf (r .out)) (e false) (e true)) (sym range-is) (range-whole S)

@@ -1,5 +1,5 @@
--- A number in front of a view's record is taken for a count exactly where it is a whole number from 6 to 32, and then for that number.
--- The idea: between 6 and 32 a float equals the float of its whole part only where it is that whole number.
+-- A number in front of a view's record is taken for a count exactly where it is a whole number from the fewest planes to the most, and then for that number.
+-- The idea: between these a float equals the float of its whole part only where it is that whole number.
 use mathlib.Core.Path.{_≡_, refl, sym, subst}
 use mathlib.Core.Bool.{Bool, true, false, _&&_, true≢false}
 use Prim.Native.Nat.{ℕ, _^_, _≤_, _<_}
@@ -11,10 +11,12 @@ use lib.Ieee.{Float, nan, inf, fin, binary64, le, eq, ofInt}
 use lib.Ieee.Bits.{is-true}
 use lib.Ieee.Back.{round-whole}
 use lib.Ieee.Fits.{down-pos, and-i, and-r}
+use Rattle.number.specs.Limits.{fewestPlanes, mostPlanes}
 use Rattle.number.specs.Answer.{refused, result, unless}
 use Rattle.matrix.specs.Constants.{rounded}
-use Rattle.verdict.specs.Volume.{fewestPlanes, mostPlanes, wholePart, isCount, countOf}
-use Rattle.verdict.proofs.PlaneCount.{Between, equal, whole-part, a-count, count-within}
+use Rattle.verdict.specs.View.{wholePart, isCount, planeCountOf}
+use Rattle.verdict.proofs.Between.{Between, equal, whole-part}
+use Rattle.verdict.proofs.PlaneCount.{a-count, count-within}
 use Rattle.farmgrid.specs.Whole.{Whole}
 use Rattle.farmgrid.specs.Records.{PlaneCount, CountExact}
 use Rattle.farmgrid.proofs.Integer.{of-pos, of-le}
@@ -49,7 +51,7 @@ module _ (x : Float) (n : ℕ) where
   abbrev whole : Bool
   whole = eq x (rounded (wholePart x) 1)
 
-  is-count : PlaneCount x n → countOf x ≡ result n
+  is-count : PlaneCount x n → planeCountOf x ≡ result n
   is-count c =
       let l = c .fewest in
       let m = c .most in
@@ -64,8 +66,8 @@ module _ (x : Float) (n : ℕ) where
       (le-whole (c .whole) (whole-of mostPlanes (omega arith)) .1 (of-le (of-pos n) (of-pos mostPlanes) .1 (omega arith))))
       (subst (λ (k : ℕ). T (eq x (rounded k 1))) (sym e) (eq-whole (c .whole) f .1 refl)))) (sym e))
 
-  a-whole-count : countOf x ≡ result n → PlaneCount x n
-  unfolding countOf
+  a-whole-count : planeCountOf x ≡ result n → PlaneCount x n
+  unfolding planeCountOf
   a-whole-count e = go (isCount x) refl e
     where
       k : (fewestPlanes ≤ n) × (n ≤ mostPlanes)

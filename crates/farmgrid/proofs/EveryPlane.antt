@@ -4,8 +4,8 @@ use mathlib.Core.Bool.{Bool}
 use mathlib.Core.List.{List, [], _∷_, map}
 use lib.Dec.{T}
 use lib.Ieee.Fits.{and-i, and-l, and-r}
+use Rattle.number.specs.Every.{every}
 use Rattle.verdict.specs.declared.plane.Plane.{Plane}
-use Rattle.verdict.specs.Frustum.{every}
 use Rattle.farmgrid.specs.FarmGrid.{WholePlane, IsPlane, ArePlanes, none, more, Every}
 
 -- where a test says K of each plane of a kind, the test of every plane says K of every one

@@ -1,5 +1,5 @@
 -- Where the box of a group is out of a view of axis planes, every member is. The idea: the verdict asks plane by plane whether a box reaches the plane, and along
--- an axis the group reaches as far as the furthest of its members; so a plane that a member reaches is reached by the group.
+-- an axis the group reaches as far as the furthest of its members; so a plane that a member reaches is reached by the group. Assumes nothing.
 use mathlib.Core.Path.{_≡_, refl, sym, ap, _∙_, subst}
 use mathlib.Core.Bool.{Bool, true, false}
 use mathlib.Core.List.{List, _∷_}
@@ -13,8 +13,8 @@ use lib.Ieee.Bits.{is-true}
 use Rattle.number.specs.Answer.{result}
 use Rattle.verdict.specs.BBox.{boxOf}
 use Rattle.verdict.specs.BBoxCalls.{flagged}
-use Rattle.verdict.specs.Volume.{planesOf}
-use Rattle.verdict.specs.Frustum.{boxOf as inView}
+use Rattle.verdict.specs.View.{planesOf}
+use Rattle.verdict.specs.Frustum.{boxInView}
 use Rattle.verdict.specs.FrustumCalls.{intersectsBoxCall}
 use Rattle.farmgrid.proofs.Integer.{of-self as self, of-neg, of-le, le-is}
 use Rattle.farmgrid.proofs.Singles.{single}
@@ -30,7 +30,7 @@ use Rattle.farmgrid.proofs.Answers.{box-answer}
 use Rattle.farmgrid.proofs.CombinedBoxes.{extentOf}
 use Rattle.farmgrid.proofs.PlacedCorners.{listed, box-among, listed-least, listed-greatest}
 use Rattle.farmgrid.proofs.CombinedRecords.{Stands}
-use Rattle.farmgrid.proofs.Grouping.{group-stands}
+use Rattle.farmgrid.proofs.Mixed.{last-placed}
 
 -- ---- along one axis
 
@@ -69,7 +69,7 @@ module _ (B : WholeBox) (Bs : List WholeBox) {last : List Float} (S : Stands las
       record { range = H .range-is; matrix = H .matrix-is; low = H .low-size; high = H .high-size; some = H .some; placement = H .placement }
 
   abbrev verdict : List Float → Bool
-  verdict s = inView (planesOf v (W .count)) (boxOf s)
+  verdict s = boxInView (planesOf v (W .count)) (boxOf s)
 
   -- a box of the list lies inside it
   module _ {C : WholeBox} (among : (u : Bool) (j : ℕ) → Coordinate j (extentOf C u j) (B ∷ Bs)) where
@@ -84,7 +84,7 @@ module _ (B : WholeBox) (Bs : List WholeBox) {last : List Float} (S : Stands las
         let brings : T (verdict s) → T (verdict last) =
         λ t. box-reaches wide (W .planes) .1 (every-of (reaches-as-well (S .holds .placement) (h .box .grid .placement) least greatest) (W .planes)
         (box-reaches (grid-wide (h .box)) (W .planes) .0 t)) in
-        box-answer v W s (h .numbers) (is-true (flagged s) (h .flag)) ∙ ap result (no-as-well (verdict s) (verdict last) brings e)
+        box-answer v (W .volume) s (h .numbers) (is-true (flagged s) (h .flag)) ∙ ap result (no-as-well (verdict s) (verdict last) brings e)
 
   members-out : verdict last ≡ false → {ss : List (List Float)} {Cs : List WholeBox} → ((j : ℕ) (z : ℤ) → Coordinate j z Cs → Coordinate j z (B ∷ Bs))
       → BoxRecords ss Cs → EachRecord (λ s. intersectsBoxCall v s ≡ result false) ss
@@ -93,9 +93,9 @@ module _ (B : WholeBox) (Bs : List WholeBox) {last : List Float} (S : Stands las
 
 pub group-out : GroupOut
 group-out ss B Bs last v Ps h l W =
-    let S = group-stands h l in
+    let S = last-placed h l in
     record {
-      verdict = inView (planesOf v (W .count)) (boxOf last);
-      answered = box-answer v W last (S .numbers) (S .flag);
+      verdict = boxInView (planesOf v (W .count)) (boxOf last);
+      answered = box-answer v (W .volume) last (S .numbers) (S .flag);
       members = λ e. members-out B Bs S W e (λ j z c. c) h;
     }

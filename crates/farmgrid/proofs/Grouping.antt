@@ -1,26 +1,23 @@
--- Grouping a list of grid boxes is exact, in every order and however it is split: no call is refused, and the aligned range of the box that is left runs from the
--- least to the greatest among the placed corners of all boxes listed. The idea: as for combining, a call puts the union of extents in their place, so that the
--- union of all of them with any further extent stays the same; the fold of a group is the union of its extents, one after another.
+-- One call on a group of the records of a list: it is not refused, and puts the union of their extents in their place, so that the list stands for what it stood for.
+-- The idea: the fold of a group is the union of its extents, one after another. Assumes nothing.
 use mathlib.Core.Path.{_≡_, refl, sym, ap, _∙_, subst}
-use mathlib.Core.Bool.{true, false}
 use mathlib.Core.List.{List, [], _∷_}
 use Prim.Native.Nat.{_≤_}
 use native.Mathlib.Omega.{arith}
 use lib.ListN.{length}
 use lib.Ieee.{Float}
+use Rattle.number.specs.Limits.{boxLength}
 use Rattle.number.specs.Answer.{Reply, write}
-use Rattle.verdict.specs.BBox.{numbers, boxOf, combined}
+use Rattle.verdict.specs.BBox.{boxOf, combined}
 use Rattle.verdict.specs.declared.bbox.BBox3d.{BBox3d}
-use Rattle.group.specs.Group.{boxLength, combinedWith, grouped, groupCall}
+use Rattle.group.specs.Group.{combinedWith, grouped, groupCall}
 use Rattle.group.proofs.Repeated.{AllGood}
-use Rattle.farmgrid.specs.FarmGrid.{WholeBox}
-use Rattle.farmgrid.specs.Records.{BoxRecords, Accepted}
-use Rattle.farmgrid.specs.Grouping.{joined, Taken, nothing as none-taken, also as also-taken, Group, Grouped, none, call, GroupingExact}
+use Rattle.farmgrid.specs.Records.{Accepted}
+use Rattle.farmgrid.specs.Grouping.{joined, Taken, nothing as none-taken, also as also-taken, Group}
 use Rattle.farmgrid.proofs.Extents.{Extent, join, join-assoc, over}
 use Rattle.farmgrid.proofs.CombinedBoxes.{Holds, combined-holds}
-use Rattle.farmgrid.proofs.PlacedCorners.{listed, listed-least, listed-greatest}
-use Rattle.farmgrid.proofs.CombinedRecords.{Stands, written, range-status, range-numbers, range-exact}
-use Rattle.farmgrid.proofs.Combining.{Stand, nothing, also, Total, taken, start, last-stands}
+use Rattle.farmgrid.proofs.CombinedRecords.{Stands, written}
+use Rattle.farmgrid.proofs.Totals.{Stand, nothing, also, Total, taken}
 use Rattle.farmgrid.proofs.Groups.{group-writes}
 
 -- ---- the extent of a group
@@ -73,7 +70,7 @@ all-good : {ss : List (List Float)} {es : List Extent} → Stand ss es → AllGo
 all-good nothing = tt
 all-good (also S Ss) = (record { numbers = S .numbers; flag = S .flag }, all-good Ss)
 
--- ---- one call, and any number of them
+-- ---- one call
 
 -- what a group's call leaves: a record that stands for the union of the group's extents
 record Joined (group : List (List Float)) (owns : List Extent) : Type 0 where
@@ -95,39 +92,12 @@ module _ {group ss rest : List (List Float)} {f : Extent → Extent} (G : Group 
   writes : groupCall (joined group) out ≡ write (grouped group)
   writes = group-writes group (all-good (own .stands)) (G .some) (G .most) out room
 
-  accepted : Accepted (groupCall (joined group) out) (λ s. length s ≡ boxLength)
-  accepted = subst (λ (r : Reply). Accepted r (λ s. length s ≡ boxLength)) (sym writes) (record { status = refl; left = left .stands .numbers })
+  pub group-call : Accepted (groupCall (joined group) out) (λ s. length s ≡ boxLength)
+  group-call = subst (λ (r : Reply Float). Accepted r (λ s. length s ≡ boxLength)) (sym writes) (record { status = refl; left = left .stands .numbers })
 
-  called : Total (groupCall (joined group) out .out ∷ rest) f
-  called = record {
+  pub group-total : Total (groupCall (joined group) out .out ∷ rest) f
+  group-total = record {
     extents = left .extent ∷ own .others;
-    stand = also (subst (λ (r : Reply). Stands (r .out) (left .extent)) (sym writes) (left .stands)) (own .stand);
+    stand = also (subst (λ (r : Reply Float). Stands (r .out) (left .extent)) (sym writes) (left .stands)) (own .stand);
     total = λ x. left .total (over x (own .others)) ∙ sym (own .total x) ∙ T .total x;
   }
-
-left-total : {ss left : List (List Float)} {f : Extent → Extent} → Grouped ss left → Total ss f → Total left f
-left-total none T = T
-left-total (call G out room rest) T = left-total rest (called G T out room)
-
--- the record left stands for the union of all extents
-pub group-stands : {ss : List (List Float)} {B : WholeBox} {Bs : List WholeBox} → BoxRecords ss (B ∷ Bs) → {last : List Float} → Grouped ss (last ∷ [])
-    → Stands last (listed B Bs)
-group-stands {B = B} {Bs = Bs} h l = let T = left-total l (start h) in last-stands (listed B Bs) (T .stand) (T .total)
-
-pub grouping-exact : GroupingExact
-grouping-exact ss B Bs h = record {
-  accepted = λ l G out room. accepted G (left-total l (start h)) out room;
-  exact = λ l out room.
-      let S = group-stands h l in
-      record {
-        status = range-status S out room;
-        left = record {
-          numbers = range-numbers S out room;
-          low = listed B Bs false;
-          high = listed B Bs true;
-          range = range-exact S out room;
-          least = λ j h. listed-least B Bs j;
-          greatest = λ j h. listed-greatest B Bs j;
-        };
-      };
-}

@@ -8,9 +8,10 @@ use borrow.Author.Tests.{eq-eqb, lt-ltb, le-leb}
 use lib.ListN.{length, length-append}
 use lib.Seq.{take-at, drop-at}
 use lib.Ieee.{Float}
+use Rattle.number.specs.Limits.{boxLength, mostBoxes}
 use Rattle.number.specs.Answer.{write}
 use Rattle.number.proofs.Refusals.{has-yes}
-use Rattle.group.specs.Group.{boxLength, mostBoxes, records, countOf, recordsOf, grouped, isGroup, isWhole, allFlagged, groupCall}
+use Rattle.group.specs.Group.{records, boxCount, recordsOf, grouped, isGroup, isWhole, allFlagged, groupCall}
 use Rattle.group.proofs.Repeated.{AllGood}
 use Rattle.farmgrid.specs.Grouping.{joined}
 
@@ -40,9 +41,9 @@ module _ (ss : List (List Float)) (g : AllGood ss) (some : 1 ≤ length ss) (mos
   size : length (joined ss) ≡ length ss * boxLength
   size = joined-length ss g
 
-  records-are : recordsOf (joined ss) ≡ ss
+  pub records-are : recordsOf (joined ss) ≡ ss
   records-are =
-      let e : countOf (joined ss) ≡ length ss = omega (arith, size) in
+      let e : boxCount (joined ss) ≡ length ss = omega (arith, size) in
       ap (λ (n : ℕ). records n (joined ss)) e ∙ records-joined ss g
 
   group : isGroup (joined ss) ≡ true

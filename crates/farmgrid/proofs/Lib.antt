@@ -45,13 +45,17 @@ pub mod TurnedDot
 pub mod Turned
 pub mod BoxTurned
 pub mod Turns
--- combining
+-- combining and grouping
 pub mod Extents
 pub mod CombinedBoxes
 pub mod PlacedCorners
 pub mod CombinedRecords
+pub mod Totals
 pub mod Combining
--- grouping
 pub mod Groups
 pub mod Grouping
+pub mod Mixed
 pub mod GroupOut
+pub mod KeptByCalls
+pub mod OneFloat
+pub mod PrintedZeros

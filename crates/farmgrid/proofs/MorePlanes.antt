@@ -1,25 +1,28 @@
 -- Another plane, put anywhere among those of a view, may turn a verdict from yes to no, and never from no to yes.
 -- The idea: the verdict is exact, and what satisfies all of the planes, or reaches them, does so for those that were there before. Of points and boxes each
--- plane is asked by itself, so that it holds of all planes by definition.
+-- plane is asked by itself, so that it holds of all planes by definition. Assumes nothing.
+use mathlib.Core.Path.{sym, subst}
 use mathlib.Core.Bool.{Bool, not}
 use mathlib.Core.List.{List, [], _∷_, _++_}
-use Prim.Native.Nat.{ℕ}
+use Prim.Native.Nat.{ℕ, suc}
 use lib.Dec.{T}
 use lib.IntN.{ℤ}
+use lib.Ieee.{Float}
 use lib.Ieee.Bits.{is-true}
 use lib.Ieee.Fits.{and-i, and-l, and-r}
+use Rattle.number.specs.Every.{every}
 use Rattle.matrix.specs.Vec.{vec3Of}
 use Rattle.matrix.specs.Range.{isEmpty}
 use Rattle.matrix.specs.declared.vec.Vec3d.{Vec3d}
 use Rattle.verdict.specs.declared.plane.Plane.{Plane}
 use Rattle.verdict.specs.declared.bbox.BBox3d.{BBox3d}
-use Rattle.verdict.specs.BBox.{boxOf as loadedBox}
+use Rattle.verdict.specs.BBox.{boxOf}
 use Rattle.verdict.specs.BBoxCalls.{flagged}
 use Rattle.verdict.specs.Plane.{onPositiveSide, reachesPositiveSide, underInverseTranspose}
-use Rattle.verdict.specs.Volume.{planesOf}
-use Rattle.verdict.specs.Frustum.{every, pointOf, segmentOf, boxOf, intoSpaceOf}
+use Rattle.verdict.specs.View.{planesOf}
+use Rattle.verdict.specs.Frustum.{pointInView, segmentInView, boxInView, intoSpaceOf}
 use Rattle.farmgrid.specs.FarmGrid.{WholePlane, SegmentPlane, AxisPlane, WholeBox, IsPoint, IsBox, ArePlanes, exactly, between, Satisfies, Every}
-use Rattle.farmgrid.specs.Screens.{PointScreened, SegmentScreened, BoxScreened, EachPlaneScreens}
+use Rattle.farmgrid.specs.Screens.{PlaneMore, PointScreened, SegmentScreened, BoxScreened, EachPlaneScreens}
 use Rattle.farmgrid.proofs.Answers.{point-answer, segment-answer, box-answer}
 use Rattle.farmgrid.proofs.Segment.{point-is, segment-is}
 use Rattle.farmgrid.proofs.BoxReach.{Reaches}
@@ -39,59 +42,87 @@ module _ (test : Plane → Bool) (p : Plane) (qs : List Plane) where
   tested-without (o ∷ ps) t =
       and-i (test o) (every test (ps ++ qs)) (and-l (test o) (every test (ps ++ p ∷ qs)) t) (tested-without ps (and-r (test o) (every test (ps ++ p ∷ qs)) t))
 
-pub each-plane-screens : EachPlaneScreens
-unfolding pointOf boxOf
-each-plane-screens ps qs p = (
-  λ x t. tested-without (λ o. onPositiveSide o x) p qs ps t,
-  λ b t.
+module _ (ps : List Plane) (p : Plane) (qs : List Plane) where
+  point-kept : (x : Vec3d) → T (pointInView (ps ++ p ∷ qs) x) → T (pointInView (ps ++ qs) x)
+  unfolding pointInView
+  point-kept x t = tested-without (λ o. onPositiveSide o x) p qs ps t
+
+  box-kept : (b : BBox3d) → T (boxInView (ps ++ p ∷ qs) b) → T (boxInView (ps ++ qs) b)
+  unfolding boxInView
+  box-kept b t =
       let some = not (isEmpty (b .range)) in
       let test : Plane → Bool = λ o. reachesPositiveSide (underInverseTranspose (intoSpaceOf b) o) (b .range) in
-      and-i some (every test (ps ++ qs)) (and-l some (every test (ps ++ p ∷ qs)) t) (tested-without test p qs ps (and-r some (every test (ps ++ p ∷ qs)) t)),
-)
+      and-i some (every test (ps ++ qs)) (and-l some (every test (ps ++ p ∷ qs)) t) (tested-without test p qs ps (and-r some (every test (ps ++ p ∷ qs)) t))
 
 -- ---- on the farm grid: floats ps of the planes Ps and Qs, and floats ps' of these with P between them
 
 module _ {ps ps' : List Plane} (Ps : List WholePlane) (P : WholePlane) (Qs : List WholePlane) where
   module _ (hs : ArePlanes SegmentPlane ps (Ps ++ Qs)) (hs' : ArePlanes SegmentPlane ps' (Ps ++ P ∷ Qs)) where
-    point-without : {a : Vec3d} {A : ℕ → ℤ} → IsPoint a A → T (pointOf ps' a) → T (pointOf ps a)
+    point-without : {a : Vec3d} {A : ℕ → ℤ} → IsPoint a A → T (pointInView ps' a) → T (pointInView ps a)
     point-without {A = A} g t = point-is hs g .1 (every-without (λ O. Satisfies O (exactly A)) P Qs Ps (point-is hs' g .0 t))
 
-    segment-without : {a b : Vec3d} {A B : ℕ → ℤ} → IsPoint a A → IsPoint b B → T (segmentOf ps' a b) → T (segmentOf ps a b)
+    segment-without : {a b : Vec3d} {A B : ℕ → ℤ} → IsPoint a A → IsPoint b B → T (segmentInView ps' a b) → T (segmentInView ps a b)
     segment-without {A = A} {B = B} g g' t =
         let s = segment-is hs' g g' .0 t in
         let X = between A B (s .k) (s .m) (s .some) in
         segment-is hs g g' .1
         (record { k = s .k; m = s .m; some = s .some; part = s .part; seen = every-without (λ O. Satisfies O X) P Qs Ps (s .seen) })
 
-  box-without : ArePlanes AxisPlane ps (Ps ++ Qs) → ArePlanes AxisPlane ps' (Ps ++ P ∷ Qs) → {b : BBox3d} {B : WholeBox} → IsBox b B → T (boxOf ps' b) → T (boxOf ps b)
+  box-without : ArePlanes AxisPlane ps (Ps ++ Qs) → ArePlanes AxisPlane ps' (Ps ++ P ∷ Qs) → {b : BBox3d} {B : WholeBox} → IsBox b B → T (boxInView ps' b) → T (boxInView ps b)
   box-without hs hs' {B = B} g t = let w = grid-wide g in box-reaches w hs .1 (every-without (Reaches B) P Qs Ps (box-reaches w hs' .0 t))
 
 -- ---- records
 
 pub point-screened : PointScreened
 point-screened v v' p Ps P Qs A S R = record {
-  was = pointOf (planesOf v (S .before .count)) (vec3Of p);
-  is = pointOf (planesOf v' (S .after .count)) (vec3Of p);
-  answered-before = point-answer v (S .before) p (R .numbers);
-  answered-after = point-answer v' (S .after) p (R .numbers);
+  was = pointInView (planesOf v (S .before .count)) (vec3Of p);
+  is = pointInView (planesOf v' (S .after .count)) (vec3Of p);
+  answered-before = point-answer v (S .before .volume) p (R .numbers);
+  answered-after = point-answer v' (S .after .volume) p (R .numbers);
   kept = point-without Ps P Qs (S .before .planes) (S .after .planes) (R .point);
 }
 
 pub segment-screened : SegmentScreened
 segment-screened v v' p q Ps P Qs A B S R R' = record {
-  was = segmentOf (planesOf v (S .before .count)) (vec3Of p) (vec3Of q);
-  is = segmentOf (planesOf v' (S .after .count)) (vec3Of p) (vec3Of q);
-  answered-before = segment-answer v (S .before) p q (R .numbers) (R' .numbers);
-  answered-after = segment-answer v' (S .after) p q (R .numbers) (R' .numbers);
+  was = segmentInView (planesOf v (S .before .count)) (vec3Of p) (vec3Of q);
+  is = segmentInView (planesOf v' (S .after .count)) (vec3Of p) (vec3Of q);
+  answered-before = segment-answer v (S .before .volume) p q (R .numbers) (R' .numbers);
+  answered-after = segment-answer v' (S .after .volume) p q (R .numbers) (R' .numbers);
   kept = segment-without Ps P Qs (S .before .planes) (S .after .planes) (R .point) (R' .point);
 }
 
 pub box-screened : BoxScreened
 box-screened v v' b Ps P Qs B S R =
     let f = is-true (flagged b) (R .flag) in record {
-      was = boxOf (planesOf v (S .before .count)) (loadedBox b);
-      is = boxOf (planesOf v' (S .after .count)) (loadedBox b);
-      answered-before = box-answer v (S .before) b (R .numbers) f;
-      answered-after = box-answer v' (S .after) b (R .numbers) f;
+      was = boxInView (planesOf v (S .before .count)) (boxOf b);
+      is = boxInView (planesOf v' (S .after .count)) (boxOf b);
+      answered-before = box-answer v (S .before .volume) b (R .numbers) f;
+      answered-after = box-answer v' (S .after .volume) b (R .numbers) f;
       kept = box-without Ps P Qs (S .before .planes) (S .after .planes) (R .box);
     }
+
+-- a verdict that keeps its yes without a plane, of volumes of any numbers
+module _ (verdict : List Plane → Bool) (kept : (ps : List Plane) (p : Plane) (qs : List Plane) → T (verdict (ps ++ p ∷ qs)) → T (verdict (ps ++ qs)))
+    {v v' : List Float} (M : PlaneMore v v') where
+  any-kept : T (verdict (planesOf v' (suc (M .count)))) → T (verdict (planesOf v (M .count)))
+  any-kept t =
+      subst (λ (os : List Plane). T (verdict os)) (sym (M .planes))
+      (kept (M .ps) (M .p) (M .qs) (subst (λ (os : List Plane). T (verdict os)) (M .planes-more) t))
+
+pub each-plane-screens : EachPlaneScreens
+each-plane-screens = record {
+  point = λ v v' x M h. record {
+    was = pointInView (planesOf v (M .count)) (vec3Of x);
+    is = pointInView (planesOf v' (suc (M .count))) (vec3Of x);
+    answered-before = point-answer v (M .before) x h;
+    answered-after = point-answer v' (M .after) x h;
+    kept = any-kept (λ os. pointInView os (vec3Of x)) (λ ps p qs. point-kept ps p qs (vec3Of x)) M;
+  };
+  box = λ v v' b M h f. let g = is-true (flagged b) f in record {
+    was = boxInView (planesOf v (M .count)) (boxOf b);
+    is = boxInView (planesOf v' (suc (M .count))) (boxOf b);
+    answered-before = box-answer v (M .before) b h g;
+    answered-after = box-answer v' (M .after) b h g;
+    kept = any-kept (λ os. boxInView os (boxOf b)) (λ ps p qs. box-kept ps p qs (boxOf b)) M;
+  };
+}

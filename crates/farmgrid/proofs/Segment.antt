@@ -11,12 +11,13 @@ use lib.Dec.{T, lit<}
 use lib.IntN.{ℤ}
 use lib.Ieee.{Float}
 use lib.Ieee.Fits.{and-i, and-l, and-r}
+use Rattle.number.specs.Every.{every}
 use Rattle.farmgrid.proofs.Exact.{neg-whole}
 use Rattle.matrix.specs.Constants.{positiveZero, one}
 use Rattle.matrix.specs.declared.vec.Vec3d.{Vec3d}
 use Rattle.verdict.specs.declared.plane.Plane.{Plane}
 use Rattle.verdict.specs.Plane.{onPositiveSide}
-use Rattle.verdict.specs.Frustum.{every, pointOf, hasEnd, spanLeft, segmentOf}
+use Rattle.verdict.specs.Frustum.{pointInView, hasEnd, spanLeft, segmentInView}
 use Rattle.farmgrid.specs.FarmGrid.{WholePlane, SegmentPlane, IsPoint, ArePlanes, none, more}
 use Rattle.farmgrid.specs.FarmGrid.{exactly, Satisfies, InView, SegmentInView}
 use Rattle.farmgrid.proofs.WholeSums.{zero-whole, one-whole}
@@ -38,8 +39,8 @@ or-second false v t = t
 
 -- ---- the point verdict
 pub point-is : {ps : List Plane} {Ps : List WholePlane} {a : Vec3d} {A : ℕ → ℤ} → ArePlanes SegmentPlane ps Ps → IsPoint a A
-    → T (pointOf ps a) ↔ InView Ps (exactly A)
-unfolding pointOf
+    → T (pointInView ps a) ↔ InView Ps (exactly A)
+unfolding pointInView
 point-is {a = a} {A = A} hs g =
     every-is SegmentPlane (λ p. onPositiveSide p a) (λ P. Satisfies P (exactly A)) (λ p P h.
     rw (side h g) (Iff·trans (non-negative (gap P A)) (Iff·symm (point-gap P A)))) hs
@@ -75,15 +76,15 @@ module _ {a b : Vec3d} {A B : ℕ → ℤ} (g : IsPoint a A) (g' : IsPoint b B) 
   kept-by [] u m = (λ t. t, λ t. t)
   kept-by (P ∷ Ps) u m = let r = kept-by Ps u m in (λ t. (t .0, r .0 (t .1)), λ t. (t .0, r .1 (t .1)))
 
-  segment-places : {ps : List Plane} {Ps : List WholePlane} → ArePlanes SegmentPlane ps Ps → T (segmentOf ps a b) ↔ Place (Kept Ps A B)
-  unfolding segmentOf
+  segment-places : {ps : List Plane} {Ps : List WholePlane} → ArePlanes SegmentPlane ps Ps → T (segmentInView ps a b) ↔ Place (Kept Ps A B)
+  unfolding segmentInView
   segment-places {ps} {Ps} hs = (to, back)
     where
       each : Bool
       each = every (hasEnd a b) ps
 
       ends : Bool
-      ends = pointOf ps a || pointOf ps b
+      ends = pointInView ps a || pointInView ps b
 
       left : Bool
       left = spanLeft ps a b positiveZero one
@@ -95,7 +96,7 @@ module _ {a b : Vec3d} {A B : ℕ → ℤ} (g : IsPoint a A) (g' : IsPoint b B) 
 
       to : T (each && (ends || left)) → Place (Kept Ps A B)
       to t = elim (or-cases ends left (and-r each (ends || left) t)) [
-        | inl e ↦ elim (or-cases (pointOf ps a) (pointOf ps b) e) [
+        | inl e ↦ elim (or-cases (pointInView ps a) (pointInView ps b) e) [
           | inl i ↦ record { u = 1; m = 0; some = lit< tt; holds = first-kept Ps A B (point-is hs g .0 i) }
           | inr i ↦ record { u = 0; m = 1; some = lit< tt; holds = second-kept Ps A B (point-is hs g' .0 i) }
         ]
@@ -106,5 +107,5 @@ module _ {a b : Vec3d} {A B : ℕ → ℤ} (g : IsPoint a A) (g' : IsPoint b B) 
       back w = let t = loop .1 w in and-i each (ends || left) (and-l each left t) (or-second ends left (and-r each left t))
 
 pub segment-is : {ps : List Plane} {Ps : List WholePlane} {a b : Vec3d} {A B : ℕ → ℤ} → ArePlanes SegmentPlane ps Ps → IsPoint a A → IsPoint b B
-    → T (segmentOf ps a b) ↔ SegmentInView Ps A B
+    → T (segmentInView ps a b) ↔ SegmentInView Ps A B
 segment-is {Ps = Ps} {A = A} {B = B} hs g g' = Iff·trans (segment-places g g' hs) (Iff·symm (segment-place Ps A B))

@@ -2,20 +2,20 @@
 -- size is a float without rounding.
 use mathlib.Core.Path.{_≡_, refl, sym, ap, subst}
 use mathlib.Core.Bool.{Bool, true, false, cond, false≢true}
-use mathlib.Core.List.{List, [], _∷_, map}
+use mathlib.Core.List.{List, [], _∷_}
 use Prim.Native.Nat.{ℕ, zero, suc, _*_, _≤_, _<_}
 use native.Mathlib.Omega.{arith}
 use lib.Dec.{T, leb, leb→le, eqb→eq}
 use lib.ListN.{length}
 use lib.IntN.{ℤ, pos, natAbs}
-use lib.Ieee.{Float, nan, inf, fin, binary64, up, down}
-use Rattle.number.specs.Answer.{Reply, refuse, write, unless, has, leaving}
-use Rattle.number.specs.Grid.{centimetres, wholeNearest, signed, gridLimit, placed, onGrid, wholeOf, coordinates, every, gridCall}
+use lib.Ieee.{Float, nan, inf, fin, binary64, up, down, ofInt}
+use Rattle.number.specs.Limits.{gridLimit}
+use Rattle.number.specs.Answer.{Reply, refuse, replied, unless, has, leaving}
+use Rattle.number.specs.Grid.{centimetres, wholeNearest, signed, placed, coordinates, gridNumbers, gridCall}
 use Rattle.number.specs.Slice.{at}
 use Rattle.number.specs.declared.grid.Coordinate.{Coordinate}
 use Rattle.number.specs.declared.grid.Coordinate.the-variants.{On, Off}
 use Rattle.farmgrid.specs.Whole.{Whole}
-use Rattle.farmgrid.specs.Placement.{gridSize}
 use Rattle.farmgrid.specs.Survey.{GridPointOf, SurveyExact}
 use Rattle.farmgrid.proofs.Exact.{abs-signed, of-whole}
 
@@ -25,8 +25,12 @@ abbrev wholeAt : Coordinate → ℤ
 wholeAt (On z) = z
 wholeAt Off = pos 0
 
+abbrev onGrid : Coordinate → Bool
+onGrid (On z) = true
+onGrid Off = false
+
 -- what is on the grid is no larger than its limit
-limited : (x : Float) (z : ℤ) → placed x ≡ On z → natAbs z ≤ gridSize
+limited : (x : Float) (z : ℤ) → placed x ≡ On z → natAbs z ≤ gridLimit
 unfolding placed
 limited nan z e = absurd (false≢true (ap onGrid e))
 limited (inf s) z e = absurd (false≢true (ap onGrid e))
@@ -35,8 +39,8 @@ limited (fin s m e) z h = go (leb n gridLimit) (leb→le n gridLimit) h
     n : ℕ
     n = wholeNearest (m * up e) (down e)
 
-    go : (b : Bool) → (T b → n ≤ gridLimit) → cond b (On (signed s n)) Off ≡ On z → natAbs z ≤ gridSize
-    go true l k = subst (λ (y : ℤ). natAbs y ≤ gridSize) (ap wholeAt k) (subst (λ (i : ℕ). i ≤ gridSize) (sym (abs-signed s n)) (l tt))
+    go : (b : Bool) → (T b → n ≤ gridLimit) → cond b (On (signed s n)) Off ≡ On z → natAbs z ≤ gridLimit
+    go true l k = subst (λ (y : ℤ). natAbs y ≤ gridLimit) (ap wholeAt k) (subst (λ (i : ℕ). i ≤ gridLimit) (sym (abs-signed s n)) (l tt))
     go false l k = absurd (false≢true (ap onGrid k))
 
 -- ---- three of them
@@ -57,11 +61,12 @@ module _ (x y z : Float) (out : List Float) where
   abbrev p : List Float
   p = x ∷ y ∷ z ∷ []
 
-  abbrev answer : Bool → Bool → List Coordinate → Reply
-  answer inputs room cs = unless inputs (refuse 1 out) (unless room (refuse 2 out) (unless (every cs) (refuse 7 out) (write (map wholeOf cs))))
+  abbrev answer : Bool → Bool → List Coordinate → Reply Float
+  answer inputs room cs = unless inputs (refuse 1 out) (unless room (refuse 2 out) (replied (gridNumbers cs) out))
 
   accepted : (i r : Bool) (a b c : Coordinate) → placed (centimetres x) ≡ a → placed (centimetres y) ≡ b → placed (centimetres z) ≡ c
       → answer i r (a ∷ b ∷ c ∷ []) .status ≡ 0 → GridPointOf p (answer i r (a ∷ b ∷ c ∷ []) .out)
+  unfolding gridNumbers
   accepted false r a b c f g h e = absurd (omega (arith, e))
   accepted true false a b c f g h e = absurd (omega (arith, e))
   accepted true true Off b c f g h e = absurd (omega (arith, e))
@@ -78,10 +83,10 @@ module _ (x y z : Float) (out : List Float) where
           numbers = refl;
           point = record {
             numbers = record {
-              at = below-three (λ i. Whole (at (wholeOf (On u) ∷ wholeOf (On v) ∷ wholeOf (On w) ∷ []) i) (three u v w i))
+              at = below-three (λ i. Whole (at (ofInt binary64 u ∷ ofInt binary64 v ∷ ofInt binary64 w ∷ []) i) (three u v w i))
                   (of-whole binary64 u (omega (arith, A))) (of-whole binary64 v (omega (arith, B))) (of-whole binary64 w (omega (arith, C)));
             };
-            grid = record { size = below-three (λ i. natAbs (three u v w i) ≤ gridSize) A B C };
+            grid = record { size = below-three (λ i. natAbs (three u v w i) ≤ gridLimit) A B C };
           };
         };
       }
@@ -91,8 +96,8 @@ short : (p out : List Float) → (length p ≡ 3 → ⊥) → gridCall p out .st
 unfolding gridCall leaving
 short p out n e = go (has 3 p) (eqb→eq (length p) 3) e
   where
-    rest : Reply
-    rest = unless (has 3 out) (refuse 2 out) (unless (every (coordinates p)) (refuse 7 out) (write (map wholeOf (coordinates p))))
+    rest : Reply Float
+    rest = unless (has 3 out) (refuse 2 out) (replied (gridNumbers (coordinates p)) out)
 
     go : (b : Bool) → (T b → length p ≡ 3) → unless b (refuse 1 out) rest .status ≡ 0 → ⊥
     go true l k = n (l tt)

@@ -11,7 +11,7 @@ use Rattle.farmgrid.proofs.Integer.{of-self, of-sum, of-minus, of-eq}
 use Rattle.matrix.specs.declared.vec.Vec3d.{Vec3d}
 use Rattle.farmgrid.specs.Placement.{dotℤ, turnedℤ, movedℤ, QuarterTurn}
 use Rattle.verdict.specs.declared.plane.Plane.{Plane}
-use Rattle.verdict.specs.Frustum.{pointOf, segmentOf}
+use Rattle.verdict.specs.Frustum.{pointInView, segmentInView}
 use Rattle.farmgrid.specs.FarmGrid.{WholePlane, SegmentPlane, IsPoint, ArePlanes, exactly, Satisfies, InView, SegmentInView, movedPlane}
 use Rattle.farmgrid.proofs.Dot.{dot-sum}
 use Rattle.farmgrid.proofs.TurnedDot.{keeps-dot}
@@ -58,10 +58,10 @@ module _ {f : ℕ → ℕ → ℤ} (F : QuarterTurn f) where
   -- ---- and the verdicts: floats ps, a and b of the grid, and floats ps', a' and b' that are the moved ones and on the grid again
   module _ {ps ps' : List Plane} {Ps : List WholePlane} (hs : ArePlanes SegmentPlane ps Ps) (hs' : ArePlanes SegmentPlane ps' (map (movedPlane f) Ps))
       {a a' : Vec3d} {A : ℕ → ℤ} (g : IsPoint a A) (g' : IsPoint a' (movedℤ f A)) where
-    pub point-turned : pointOf ps' a' ≡ pointOf ps a
-    point-turned = same-test (pointOf ps' a') (pointOf ps a)
+    pub point-turned : pointInView ps' a' ≡ pointInView ps a
+    point-turned = same-test (pointInView ps' a') (pointInView ps a)
         (Iff·trans (point-is hs' g') (Iff·trans (point-in-view Ps A) (Iff·symm (point-is hs g))))
 
-    pub segment-turned : {b b' : Vec3d} {B : ℕ → ℤ} → IsPoint b B → IsPoint b' (movedℤ f B) → segmentOf ps' a' b' ≡ segmentOf ps a b
-    segment-turned {b} {b'} {B} k k' = same-test (segmentOf ps' a' b') (segmentOf ps a b)
+    pub segment-turned : {b b' : Vec3d} {B : ℕ → ℤ} → IsPoint b B → IsPoint b' (movedℤ f B) → segmentInView ps' a' b' ≡ segmentInView ps a b
+    segment-turned {b} {b'} {B} k k' = same-test (segmentInView ps' a' b') (segmentInView ps a b)
         (Iff·trans (segment-is hs' g' k') (Iff·trans (segment-in-view Ps A B) (Iff·symm (segment-is hs g k))))

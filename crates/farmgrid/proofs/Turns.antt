@@ -9,6 +9,7 @@ use lib.ListN.{length}
 use lib.IntN.{ℤ}
 use lib.Ieee.{Float}
 use lib.Ieee.Bits.{is-true}
+use Rattle.number.specs.Limits.{boxLength}
 use Rattle.number.specs.Answer.{Reply, Outcome, result, write}
 use Rattle.matrix.specs.declared.vec.Vec3d.{Vec3d}
 use Rattle.matrix.specs.declared.matrix.Mat4d.{Mat4d}
@@ -16,8 +17,8 @@ use Rattle.matrix.specs.Matrix.{matrixOf}
 use Rattle.matrix.specs.Transform.{transformed}
 use Rattle.matrix.specs.Calls.{transformCall as pointMoved}
 use Rattle.verdict.specs.declared.bbox.BBox3d.{BBox3d}
-use Rattle.verdict.specs.BBox.{boxOf, numbers, placed}
-use Rattle.verdict.specs.BBoxCalls.{flagged, transformCall as boxMoved}
+use Rattle.verdict.specs.BBox.{boxOf, numbers, transformedBox}
+use Rattle.verdict.specs.BBoxCalls.{flagged, transformBoxCall as boxMoved}
 use Rattle.farmgrid.specs.Placement.{Placed, GridPoint, movedℤ}
 use Rattle.farmgrid.specs.FarmGrid.{WholeBox, GridBox, IsPoint, IsBox, movedBox}
 use Rattle.farmgrid.specs.Records.{PointRecord, BoxRecord, TurnRecord, Accepted}
@@ -40,7 +41,7 @@ module _ {m : Mat4d} {f : ℕ → ℕ → ℤ} (M : Placed m f) where
   }
 
   -- the product
-  box-moved : {b : BBox3d} {B : WholeBox} → IsBox b B → GridBox (movedBox f B) → IsBox (placed b m) (movedBox f B)
+  box-moved : {b : BBox3d} {B : WholeBox} → IsBox b B → GridBox (movedBox f B) → IsBox (transformedBox b m) (movedBox f B)
   box-moved B g = record {
     range = B .range;
     matrix = product-whole (B .matrix) (widen-placement (lit≤ tt) (B .grid .placement)) (M .numbers) (widen-placement (lit≤ tt) (M .placement));
@@ -58,8 +59,8 @@ written b h = record {
 }
 
 -- a call that writes was not refused
-accepted : {r : Reply} {v : List Float} {Kind : List Float → Type 0} → r ≡ write v → Kind v → Accepted r Kind
-accepted {Kind = Kind} e k = subst (λ (r : Reply). Accepted r Kind) (sym e) (record { status = refl; left = k })
+accepted : {r : Reply Float} {v : List Float} {Kind : List Float → Type 0} → r ≡ write v → Kind v → Accepted r Kind
+accepted {Kind = Kind} e k = subst (λ (r : Reply Float). Accepted r Kind) (sym e) (record { status = refl; left = k })
 
 -- two verdicts that were not refused, and are the same
 same : {o o' : Outcome Bool} {v v' : Bool} → o' ≡ result v' → o ≡ result v → v' ≡ v → o' ≡ o
@@ -72,11 +73,11 @@ module _ {m : List Float} {f : ℕ → ℕ → ℤ} (M : TurnRecord m f) where
       accepted (point-moves m p out (M .numbers) (P .before .numbers) room)
       (record { numbers = refl; point = point-moved (M .turn) (P .before .point) (P .after) })
 
-  places : {b : List Float} {B : WholeBox} → TurnedBox f b B → (out : List Float) → length out ≡ 23
+  places : {b : List Float} {B : WholeBox} → TurnedBox f b B → (out : List Float) → length out ≡ boxLength
       → Accepted (boxMoved b m out) (λ b'. BoxRecord b' (movedBox f B))
   places {b} P out room =
       accepted (box-moves b m out (P .before .numbers) (M .numbers) room (is-true (flagged b) (P .before .flag)))
-      (written (placed (boxOf b) (matrixOf m)) (box-moved (M .turn) (P .before .box) (P .after)))
+      (written (transformedBox (boxOf b) (matrixOf m)) (box-moved (M .turn) (P .before .box) (P .after)))
 
 pub turn-keeps : TurnKeepsVerdicts
 turn-keeps m f M = record {
@@ -84,17 +85,17 @@ turn-keeps m f M = record {
   places = places M;
   point = λ {v} {v'} {p} W P out room.
       let P' = moves M P out room .left in
-      same (point-answer v' (W .after) (pointMoved m p out .out) (P' .numbers)) (point-answer v (W .before) p (P .before .numbers))
+      same (point-answer v' (W .after .volume) (pointMoved m p out .out) (P' .numbers)) (point-answer v (W .before .volume) p (P .before .numbers))
       (point-turned (M .turn .placement .turn) (W .before .planes) (W .after .planes) (P .before .point) (P' .point));
   segment = λ {v} {v'} {p0 = p} {p1 = q} W P Q out out' room room'.
       let P' = moves M P out room .left in
       let Q' = moves M Q out' room' .left in
-      same (segment-answer v' (W .after) (pointMoved m p out .out) (pointMoved m q out' .out) (P' .numbers) (Q' .numbers))
-      (segment-answer v (W .before) p q (P .before .numbers) (Q .before .numbers))
+      same (segment-answer v' (W .after .volume) (pointMoved m p out .out) (pointMoved m q out' .out) (P' .numbers) (Q' .numbers))
+      (segment-answer v (W .before .volume) p q (P .before .numbers) (Q .before .numbers))
       (segment-turned (M .turn .placement .turn) (W .before .planes) (W .after .planes) (P .before .point) (P' .point) (Q .before .point) (Q' .point));
   box = λ {v} {v'} {b} W B out room.
       let B' = places M B out room .left in
-      same (box-answer v' (W .after) (boxMoved b m out .out) (B' .numbers) (is-true (flagged (boxMoved b m out .out)) (B' .flag)))
-      (box-answer v (W .before) b (B .before .numbers) (is-true (flagged b) (B .before .flag)))
+      same (box-answer v' (W .after .volume) (boxMoved b m out .out) (B' .numbers) (is-true (flagged (boxMoved b m out .out)) (B' .flag)))
+      (box-answer v (W .before .volume) b (B .before .numbers) (is-true (flagged b) (B .before .flag)))
       (box-turned (M .turn .placement) (W .before .planes) (W .after .planes) (B .before .box) (B' .box));
 }

@@ -3,8 +3,8 @@ use lib.Ieee.Bits.{is-true}
 use Rattle.matrix.specs.Vec.{vec3Of}
 use Rattle.verdict.specs.BBox.{boxOf}
 use Rattle.verdict.specs.BBoxCalls.{flagged}
-use Rattle.verdict.specs.Volume.{planesOf}
-use Rattle.verdict.specs.Frustum.{pointOf, segmentOf, boxOf as inView}
+use Rattle.verdict.specs.View.{planesOf}
+use Rattle.verdict.specs.Frustum.{pointInView, segmentInView, boxInView}
 use Rattle.farmgrid.specs.Verdicts.{PointExact, SegmentExact, BoxExact}
 use Rattle.farmgrid.proofs.Answers.{point-answer, segment-answer, box-answer}
 use Rattle.farmgrid.proofs.Segment.{point-is, segment-is}
@@ -12,21 +12,21 @@ use Rattle.farmgrid.proofs.BoxInView.{box-is}
 
 pub point-exact : PointExact
 point-exact v p Ps A W P = record {
-  verdict = pointOf (planesOf v (W .count)) (vec3Of p);
-  answered = point-answer v W p (P .numbers);
+  verdict = pointInView (planesOf v (W .count)) (vec3Of p);
+  answered = point-answer v (W .volume) p (P .numbers);
   exact = point-is (W .planes) (P .point);
 }
 
 pub segment-exact : SegmentExact
 segment-exact v p q Ps A B W P Q = record {
-  verdict = segmentOf (planesOf v (W .count)) (vec3Of p) (vec3Of q);
-  answered = segment-answer v W p q (P .numbers) (Q .numbers);
+  verdict = segmentInView (planesOf v (W .count)) (vec3Of p) (vec3Of q);
+  answered = segment-answer v (W .volume) p q (P .numbers) (Q .numbers);
   exact = segment-is (W .planes) (P .point) (Q .point);
 }
 
 pub box-exact : BoxExact
 box-exact v b Ps B W S C = record {
-  verdict = inView (planesOf v (W .count)) (boxOf b);
-  answered = box-answer v W b (C .numbers) (is-true (flagged b) (C .flag));
+  verdict = boxInView (planesOf v (W .count)) (boxOf b);
+  answered = box-answer v (W .volume) b (C .numbers) (is-true (flagged b) (C .flag));
   exact = box-is (W .planes) S (C .box);
 }

@@ -1,4 +1,4 @@
--- Ranges of whole numbers: emptiness, union, size, and a range through a placement are exact. The idea: a placement takes each
+-- Ranges of whole numbers: emptiness, union, and a range through a placement are exact. The idea: a placement takes each
 -- axis from one axis, so that of the eight placed corners only two values occur along an axis, those of the least and of the
 -- greatest corner; what the code adds along the other two axes is 0. The least and the greatest are told by one proof.
 use mathlib.Core.Path.{_≡_, refl, sym, ap, _∙_, subst}
@@ -7,37 +7,32 @@ use Prim.Native.Nat.{ℕ, zero, suc, _*_, _/_, _%_, _^_, _≤_, _<_}
 use native.Mathlib.Omega.{arith}
 use mathlib.Core.Bool.{Bool, true, false, not, _||_, cond}
 use lib.Dec.{T, eqb, lit<, lit≤}
-use lib.IntN.{ℤ, pos, natAbs, _+ℤ_, _-ℤ_, _*ℤ_}
+use lib.IntN.{ℤ, pos, natAbs, _+ℤ_, _*ℤ_}
 use lib.Signed.{_≤ℤ_, ltZ, ltZ-yes, ltZ-no, clashℤ}
 use lib.Ieee.{Float, lt}
-use Rattle.number.specs.Arithmetic.{_⊖_, _⊗_, minOf, maxOf}
+use Rattle.number.specs.Arithmetic.{_⊗_, minOf, maxOf}
 use Rattle.farmgrid.specs.Whole.{Whole}
 use Rattle.farmgrid.proofs.Integer.{of-self as self, of-eq, of-min, of-max, min-ind, max-ind, min-shift, max-shift}
 use Rattle.farmgrid.proofs.Exact.{lt-whole, min-whole, max-whole}
-use Rattle.farmgrid.proofs.Formula.{Fit, fit-sum, fit-minus, fit-times}
+use Rattle.farmgrid.proofs.Formula.{Fit, fit-sum, fit-times}
 use Rattle.matrix.specs.declared.matrix.Mat4d.{Mat4d}
 use Rattle.matrix.specs.declared.range.Range3d.{Range3d}
 use Rattle.matrix.specs.Vec.{axis}
 use Rattle.matrix.specs.Matrix.{entry}
 use Rattle.matrix.specs.Transform.{column}
 use Rattle.matrix.specs.Range as Range
-use Rattle.matrix.specs.Range.{sumFrom, emptyAlong, isEmpty, union, size, reach}
-use Rattle.farmgrid.specs.Placement.{WholeVec, WholeRange, WholeMatrix, Within, NonEmpty, PlacementWithin, columnℤ, movedℤ}
+use Rattle.matrix.specs.Range.{sumFrom, emptyAlong, isEmpty, union, reach}
+use Rattle.farmgrid.specs.Placement.{WholeRange, WholeMatrix, Within, NonEmpty, PlacementWithin, columnℤ, movedℤ}
 use Rattle.farmgrid.specs.Placement.{smaller, larger, pickedOf, cornerℤ, placedCorner, placedLow, placedHigh}
 use Rattle.farmgrid.proofs.Singles.{three, only, sum-only, Single}
 use Rattle.farmgrid.proofs.QuarterTurns.{source, moved-is, widen-placement}
 use Rattle.farmgrid.proofs.WholeSums.{axis-fit, whole-vec3}
 use Rattle.farmgrid.proofs.WholePlacements.{wide, entry-fit}
+use Rattle.number.proofs.Places.{same-test}
+use Rattle.number.proofs.Comparisons.{refuted}
 use Rattle.farmgrid.proofs.Signs.{_⊞_, flip, times-unit}
 
 -- ---- emptiness
-
--- two tests that pass together are equal
-same-test : (u w : Bool) → (T u → T w) → (T w → T u) → u ≡ w
-same-test false false f g = refl
-same-test false true f g = absurd (g tt)
-same-test true false f g = absurd (f tt)
-same-test true true f g = refl
 
 -- low > high on some axis
 abbrev pub emptyℤ : (ℕ → ℤ) → (ℕ → ℤ) → Bool
@@ -51,10 +46,6 @@ empty-whole {r} {low} {high} R t = along 0 (lit< tt) t || along 1 (lit< tt) t ||
     along i h =
         let o = lt-whole (R .max .at i h) (R .min .at i h) in
         same-test (emptyAlong r i) (ltZ (high i) (low i)) (λ t. o .0 t .lt) (λ t. o .1 (ltZ-yes t))
-
-failed : (u : Bool) → ¬ (T u) → u ≡ false
-failed false f = refl
-failed true f = absurd (f tt)
 
 -- none of three tests passes
 none : (u v w : Bool) → u || v || w ≡ false → T (not u) × T (not v) × T (not w)
@@ -72,13 +63,13 @@ nonempty-is low high = (along, λ o t. at o 0 (lit< tt) t || at o 1 (lit< tt) t 
         record { ordered = three (λ i. low i ≤ℤ high i) (ltZ-no (n .0)) (ltZ-no (n .1)) (ltZ-no (n .2)) }
 
     at : NonEmpty low high → (i : ℕ) → i < 3 → ltZ (high i) (low i) ≡ false
-    at o i h = failed (ltZ (high i) (low i)) (λ t. clashℤ (ltZ-yes t) (o .ordered i h))
+    at o i h = refuted (ltZ (high i) (low i)) (λ t. clashℤ (ltZ-yes t) (o .ordered i h))
 
 -- a whole range with each least number at most its greatest is not empty
 pub nonempty-whole : {r : Range3d} {low high : ℕ → ℤ} → WholeRange r low high → NonEmpty low high → isEmpty r ≡ false
 nonempty-whole {low = low} {high = high} R o = empty-whole R ∙ nonempty-is low high .1 o
 
--- ---- union and size
+-- ---- union
 
 module _ {r s : Range3d} {low high low' high' : ℕ → ℤ} (R : WholeRange r low high) (S : WholeRange s low' high') where
   pub union-whole : NonEmpty low high → NonEmpty low' high'
@@ -88,11 +79,6 @@ module _ {r s : Range3d} {low high low' high' : ℕ → ℤ} (R : WholeRange r l
     min = whole-vec3 (λ i. minOf (axis (r .min) i) (axis (s .min) i)) (λ i h. min-whole (R .min .at i h) (S .min .at i h));
     max = whole-vec3 (λ i. maxOf (axis (r .max) i) (axis (s .max) i)) (λ i h. max-whole (R .max .at i h) (S .max .at i h));
   })
-
-pub size-whole : {r : Range3d} {low high : ℕ → ℤ} → WholeRange r low high → Within wide low → Within wide high
-    → WholeVec (size r) (λ i. high i -ℤ low i)
-size-whole {r} R L H = whole-vec3 (λ i. axis (r .max) i ⊖ axis (r .min) i) (λ i h.
-    fit-minus (axis-fit (R .max) H i h) (axis-fit (R .min) L i h) (lit≤ tt) .whole)
 
 -- ---- the least and the greatest, by what they have in common
 

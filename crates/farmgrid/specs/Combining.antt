@@ -7,6 +7,7 @@ use lib.ListN.{length}
 use lib.IntN.{ℤ}
 use lib.Signed.{_≤ℤ_}
 use lib.Ieee.{Float}
+use Rattle.number.specs.Limits.{boxLength}
 use Rattle.matrix.specs.Range.{rangeOf}
 use Rattle.farmgrid.specs.Placement.{WholeRange}
 use Rattle.verdict.specs.BBoxCalls.{combineCall, alignedRangeCall}
@@ -30,7 +31,7 @@ pub record Two (a b : List Float) (ss rest : List (List Float)) : Type 0 where
 -- their place; nothing else touches them". The slice that is lent for the result has its record's length.
 pub data Leaves : List (List Float) → List (List Float) → Type 0 where
   none : {ss : List (List Float)} → Leaves ss ss
-  call : {a b : List Float} {ss rest left : List (List Float)} → Two a b ss rest → (out : List Float) → length out ≡ 23
+  call : {a b : List Float} {ss rest left : List (List Float)} → Two a b ss rest → (out : List Float) → length out ≡ boxLength
       → Leaves (combineCall a b out .out ∷ rest) left → Leaves ss left
 
 -- ---- the claim
@@ -61,11 +62,11 @@ pub record RangeExact (Bs : List WholeBox) (r : List Float) : Type 0 where
 -- what is claimed of a list of records of the grid boxes Bs, over every sequence of calls
 pub record CombinesExactly (ss : List (List Float)) (Bs : List WholeBox) : Type 0 where
   -- "With every slice of its record's length, none of these calls is refused."
-  pub accepted : {a b : List Float} {left rest : List (List Float)} → Leaves ss left → Two a b left rest → (out : List Float) → length out ≡ 23
-      → Accepted (combineCall a b out) (λ s. length s ≡ 23)
+  pub accepted : {a b : List Float} {left rest : List (List Float)} → Leaves ss left → Two a b left rest → (out : List Float) → length out ≡ boxLength
+      → Accepted (combineCall a b out) (λ s. length s ≡ boxLength)
   -- "`aligned_range` of the one box left matches"
   pub exact : {last : List Float} → Leaves ss (last ∷ []) → (out : List Float) → length out ≡ 6 → Accepted (alignedRangeCall last out) (RangeExact Bs)
 
--- "Combining starts from a list of one or more grid boxes."
+-- "Combining starts from a list of one or more grid boxes." specs/Grouping claims the same of calls of `combine` and on groups, mixed.
 abbrev pub CombiningExact : Type 0
 CombiningExact = (ss : List (List Float)) (B : WholeBox) (Bs : List WholeBox) → BoxRecords ss (B ∷ Bs) → CombinesExactly ss (B ∷ Bs)

@@ -8,6 +8,7 @@ use Prim.Native.Nat.{ℕ, _-_, _≤_, _<_}
 use lib.Dec.{lit≤}
 use lib.IntN.{ℤ, pos, natAbs, _+ℤ_, _-ℤ_, _*ℤ_}
 use lib.Signed.{_≤ℤ_}
+use Rattle.number.specs.Limits.{normalLimit, distanceLimit}
 use Rattle.farmgrid.specs.Whole.{Whole}
 use Rattle.matrix.specs.declared.vec.Vec3d.{Vec3d}
 use Rattle.farmgrid.specs.Placement.{WholeVec, WholeRange, WholeMatrix, Within, NonEmpty, GridPoint, Placement, dotℤ, sizes, turnedℤ, productℤ, placedCorner, placedLow, placedHigh}
@@ -22,8 +23,8 @@ pub record WholePlane : Type 0 where
 
 -- "Segment planes [..] have whole normal entries of size at most 128 and whole distances of size at most 16,777,216."
 pub record SegmentPlane (P : WholePlane) : Type 0 where
-  pub entries : Within 128 (P .normal)
-  pub far : natAbs (P .distance) ≤ 16_777_216
+  pub entries : Within normalLimit (P .normal)
+  pub far : natAbs (P .distance) ≤ distanceLimit
 
 -- "Axis planes are segment planes with a single 1 or −1 and two zeros in the normal": the sizes of the entries add up to 1.
 pub record AxisPlane (P : WholePlane) : Type 0 where

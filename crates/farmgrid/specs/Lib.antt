@@ -9,3 +9,4 @@ pub mod Survey
 pub mod Turns
 pub mod Combining
 pub mod Grouping
+pub mod PrintedZeros

@@ -6,6 +6,7 @@ use mathlib.Core.Bool.{cond}
 use lib.Dec.{eqb}
 use lib.IntN.{ℤ, pos, natAbs, _+ℤ_, _*ℤ_}
 use lib.Signed.{ltZ, _≤ℤ_}
+use Rattle.number.specs.Limits.{gridLimit}
 use Rattle.farmgrid.specs.Whole.{Whole}
 use Rattle.matrix.specs.declared.vec.Vec3d.{Vec3d}
 use Rattle.matrix.specs.declared.vec.Vec4d.{Vec4d}
@@ -79,17 +80,13 @@ pub record PlacementWithin (b : ℕ) (f : ℕ → ℕ → ℤ) : Type 0 where
   pub zeros : (i : ℕ) → i < 3 → f i 3 ≡ pos 0
   pub last : f 3 3 ≡ pos 1
 
--- "whole coordinates of size at most 65,536"
-abbrev pub gridSize : ℕ
-gridSize = 65536
-
 -- "Grid points have whole coordinates of size at most 65,536."
 abbrev pub GridPoint : (ℕ → ℤ) → Type 0
-GridPoint = Within gridSize
+GridPoint = Within gridLimit
 
 -- "Its translation is whole, at most 65,536 in size"
 abbrev pub Placement : (ℕ → ℕ → ℤ) → Type 0
-Placement = PlacementWithin gridSize
+Placement = PlacementWithin gridLimit
 
 -- the matrix is the quarter-turn placement f
 pub record Placed (m : Mat4d) (f : ℕ → ℕ → ℤ) : Type 0 where

@@ -9,13 +9,14 @@ use lib.Dec.{T}
 use lib.ListN.{length}
 use lib.IntN.{ℤ, pos}
 use lib.Ieee.{Float}
+use Rattle.number.specs.Limits.{boxLength, fewestPlanes, mostPlanes}
 use Rattle.number.specs.Answer.{Reply, Outcome, result}
 use Rattle.number.specs.Slice.{at}
 use Rattle.matrix.specs.Vec.{vec3Of}
 use Rattle.matrix.specs.Matrix.{matrixOf}
 use Rattle.verdict.specs.BBox.{boxOf}
 use Rattle.verdict.specs.BBoxCalls.{flagged}
-use Rattle.verdict.specs.Volume.{fewestPlanes, mostPlanes, volumeLength, countOf, planesOf}
+use Rattle.verdict.specs.View.{volumeLength, planeCountOf, planesOf}
 use Rattle.farmgrid.specs.Whole.{Whole}
 use Rattle.farmgrid.specs.Placement.{Placed}
 use Rattle.farmgrid.specs.FarmGrid.{WholePlane, WholeBox, IsPoint, ArePlanes, IsBox}
@@ -27,26 +28,30 @@ pub record PointRecord (p : List Float) (A : ℕ → ℤ) : Type 0 where
   pub numbers : length p ≡ 3
   pub point : IsPoint (vec3Of p) A
 
--- the float x is "a whole count" n, "from 6 to 32"
+-- the float x is "a whole count" n, from the fewest planes to the most
 pub record PlaneCount (x : Float) (n : ℕ) : Type 0 where
   pub whole : Whole x (pos n)
   pub fewest : fewestPlanes ≤ n
   pub most : n ≤ mostPlanes
 
--- A number is taken for a count exactly where it is one: "12 for a count not whole or outside 6 to 32", and for no other.
+-- A number is taken for a count exactly where it is one: "12 for a count not whole or outside" these, and for no other.
 abbrev pub CountExact : Type 0
-CountExact = (x : Float) (n : ℕ) → (countOf x ≡ result n) ↔ PlaneCount x n
+CountExact = (x : Float) (n : ℕ) → (planeCountOf x ≡ result n) ↔ PlaneCount x n
 
--- a view by the planes Ps, from 6 to 32, which are of a kind, `SegmentPlane` or `AxisPlane`. Its four rays may be any numbers.
+-- a volume of n planes, from 6 to 32. The numbers behind its count may be any, NaN among them.
+pub record VolumeRecord (v : List Float) (n : ℕ) : Type 0 where
+  pub counted : PlaneCount (at v 0) n
+  pub numbers : length v ≡ volumeLength n
+
+-- a view by the planes Ps, which are of a kind, `SegmentPlane` or `AxisPlane`. Its four rays may be any numbers.
 pub record ViewRecord (Kind : WholePlane → Type 0) (v : List Float) (Ps : List WholePlane) : Type 0 where
   pub count : ℕ
-  pub counted : PlaneCount (at v 0) count
-  pub numbers : length v ≡ volumeLength count
+  pub volume : VolumeRecord v count
   pub planes : ArePlanes Kind (planesOf v count) Ps
 
 -- a grid box B: "Grid boxes have a flag of 0 or 1"
 pub record BoxRecord (b : List Float) (B : WholeBox) : Type 0 where
-  pub numbers : length b ≡ 23
+  pub numbers : length b ≡ boxLength
   pub flag : T (flagged b)
   pub box : IsBox (boxOf b) B
 
@@ -70,6 +75,6 @@ pub record Settled (answer : Outcome Bool) (A : Type 0) : Type 0 where
   pub exact : T verdict ↔ A
 
 -- a call was not refused, and what its slice holds is of a kind
-pub record Accepted (r : Reply) (Kind : List Float → Type 0) : Type 0 where
+pub record Accepted (r : Reply Float) (Kind : List Float → Type 0) : Type 0 where
   pub status : r .status ≡ 0
   pub left : Kind (r .out)

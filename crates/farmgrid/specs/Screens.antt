@@ -3,28 +3,37 @@
 use mathlib.Core.Path.{_≡_}
 use mathlib.Core.Bool.{Bool}
 use mathlib.Core.List.{List, _∷_, _++_}
-use Prim.Native.Nat.{ℕ, _≤_}
+use Prim.Native.Nat.{ℕ, suc}
 use lib.Dec.{T}
 use lib.ListN.{length}
 use lib.IntN.{ℤ}
 use lib.Ieee.{Float}
+use Rattle.number.specs.Limits.{fewestPlanes}
 use Rattle.number.specs.Answer.{Outcome, result}
-use Rattle.matrix.specs.declared.vec.Vec3d.{Vec3d}
 use Rattle.verdict.specs.declared.plane.Plane.{Plane}
-use Rattle.verdict.specs.declared.bbox.BBox3d.{BBox3d}
-use Rattle.verdict.specs.Volume.{fewestPlanes}
-use Rattle.verdict.specs.Frustum.{pointOf, boxOf}
+use Rattle.verdict.specs.BBoxCalls.{flagged}
+use Rattle.verdict.specs.View.{planesOf}
 use Rattle.verdict.specs.FrustumCalls.{intersectsPointCall, intersectsSegmentCall, intersectsBoxCall}
 use Rattle.farmgrid.specs.FarmGrid.{WholePlane, SegmentPlane, AxisPlane, WholeBox}
-use Rattle.farmgrid.specs.Records.{PointRecord, ViewRecord, BoxRecord}
+use Rattle.farmgrid.specs.Records.{PointRecord, VolumeRecord, ViewRecord, BoxRecord}
 
 -- ---- records
 
--- a view v, and a view v' that has the plane P besides, at any place behind the original six: Ps stand before it and Qs behind it
+-- a view v, and a view v' that has the plane P besides, at any place of the list: Ps stand before it and Qs behind it
 pub record Screened (Kind : WholePlane → Type 0) (v v' : List Float) (Ps : List WholePlane) (P : WholePlane) (Qs : List WholePlane) : Type 0 where
   pub before : ViewRecord Kind v (Ps ++ Qs)
   pub after : ViewRecord Kind v' (Ps ++ P ∷ Qs)
-  pub behind : fewestPlanes ≤ length Ps
+
+-- volumes of any numbers, NaN among them: v, and v' that has the plane p besides, at any place of the list
+pub record PlaneMore (v v' : List Float) : Type 0 where
+  pub count : ℕ
+  pub before : VolumeRecord v count
+  pub after : VolumeRecord v' (suc count)
+  pub ps : List Plane
+  pub p : Plane
+  pub qs : List Plane
+  pub planes : planesOf v count ≡ ps ++ qs
+  pub planes-more : planesOf v' (suc count) ≡ ps ++ p ∷ qs
 
 -- neither answer is refused, and a yes after is a yes before: no no becomes a yes
 pub record NeverToYes (before after : Outcome Bool) : Type 0 where
@@ -52,7 +61,8 @@ BoxScreened =
     (v v' b : List Float) (Ps : List WholePlane) (P : WholePlane) (Qs : List WholePlane) (B : WholeBox)
     → Screened AxisPlane v v' Ps P Qs → BoxRecord b B → NeverToYes (intersectsBoxCall v b) (intersectsBoxCall v' b)
 
--- Of points and boxes this holds for planes of all numbers, since each plane is asked by itself.
-abbrev pub EachPlaneScreens : Type 0
-EachPlaneScreens =
-    (ps qs : List Plane) (p : Plane) → ((x : Vec3d) → T (pointOf (ps ++ p ∷ qs) x) → T (pointOf (ps ++ qs) x)) × ((b : BBox3d) → T (boxOf (ps ++ p ∷ qs) b) → T (boxOf (ps ++ qs) b))
+-- Of points and boxes this holds for planes, points and boxes of all numbers, since each plane is asked by itself: of every point and every box that passes its
+-- own checks.
+pub record EachPlaneScreens : Type 0 where
+  pub point : (v v' x : List Float) → PlaneMore v v' → length x ≡ 3 → NeverToYes (intersectsPointCall v x) (intersectsPointCall v' x)
+  pub box : (v v' b : List Float) → PlaneMore v v' → length b ≡ 23 → T (flagged b) → NeverToYes (intersectsBoxCall v b) (intersectsBoxCall v' b)

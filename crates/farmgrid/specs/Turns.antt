@@ -7,8 +7,9 @@ use Prim.Native.Nat.{ℕ}
 use lib.ListN.{length}
 use lib.IntN.{ℤ}
 use lib.Ieee.{Float}
+use Rattle.number.specs.Limits.{boxLength}
 use Rattle.matrix.specs.Calls.{transformCall as pointMoved}
-use Rattle.verdict.specs.BBoxCalls.{transformCall as boxMoved}
+use Rattle.verdict.specs.BBoxCalls.{transformBoxCall as boxMoved}
 use Rattle.verdict.specs.FrustumCalls.{intersectsPointCall, intersectsSegmentCall, intersectsBoxCall}
 use Rattle.farmgrid.specs.Placement.{GridPoint, movedℤ}
 use Rattle.farmgrid.specs.FarmGrid.{WholePlane, WholeBox, SegmentPlane, AxisPlane, GridBox, movedPlane, movedBox}
@@ -39,7 +40,7 @@ pub record KeepsVerdicts (m : List Float) (f : ℕ → ℕ → ℤ) : Type 0 whe
   pub moves : {p : List Float} {A : ℕ → ℤ}
       → TurnedPoint f p A → (out : List Float) → length out ≡ 3 → Accepted (pointMoved m p out) (λ p'. PointRecord p' (movedℤ f A))
   pub places : {b : List Float} {B : WholeBox}
-      → TurnedBox f b B → (out : List Float) → length out ≡ 23 → Accepted (boxMoved b m out) (λ b'. BoxRecord b' (movedBox f B))
+      → TurnedBox f b B → (out : List Float) → length out ≡ boxLength → Accepted (boxMoved b m out) (λ b'. BoxRecord b' (movedBox f B))
   -- "its point and segment verdicts cover all segment planes"
   pub point : {v v' p : List Float} {Ps : List WholePlane} {A : ℕ → ℤ}
       → TurnedView SegmentPlane f v v' Ps → TurnedPoint f p A → (out : List Float) → length out ≡ 3
@@ -50,7 +51,7 @@ pub record KeepsVerdicts (m : List Float) (f : ℕ → ℕ → ℤ) : Type 0 whe
       → intersectsSegmentCall v' (pointMoved m p0 out0 .out) (pointMoved m p1 out1 .out) ≡ intersectsSegmentCall v p0 p1
   -- "The turn's box verdicts are those on axis planes"
   pub box : {v v' b : List Float} {Ps : List WholePlane} {B : WholeBox}
-      → TurnedView AxisPlane f v v' Ps → TurnedBox f b B → (out : List Float) → length out ≡ 23
+      → TurnedView AxisPlane f v v' Ps → TurnedBox f b B → (out : List Float) → length out ≡ boxLength
       → intersectsBoxCall v' (boxMoved b m out .out) ≡ intersectsBoxCall v b
 
 abbrev pub TurnKeepsVerdicts : Type 0

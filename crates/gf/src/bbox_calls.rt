@@ -1,7 +1,7 @@
 // The operations on boxes.
 ghost use mathlib.Core.Path.{_≡_};
 ghost use Rattle.number.specs.Answer.{answered, lone, put};
-ghost use Rattle.verdict.specs.BBoxCalls.{combineCall, transformCall, volumeCall, alignedRangeCall, centroidCall};
+ghost use Rattle.verdict.specs.BBoxCalls.{combineCall, transformBoxCall, volumeCall, alignedRangeCall, centroidCall};
 
 #[no_mangle]
 pub extern "C" fn gf_bbox_combine(a: &[f64], b: &[f64], out: &mut [f64]) -> u32
@@ -12,7 +12,7 @@ pub extern "C" fn gf_bbox_combine(a: &[f64], b: &[f64], out: &mut [f64]) -> u32
 
 #[no_mangle]
 pub extern "C" fn gf_bbox_transform(b: &[f64], m: &[f64], out: &mut [f64]) -> u32
-    ensures { λ r. ⌜ answered r (now (out .exit)) ≡ transformCall (now (b .entry)) (now (m .entry)) (now (out .entry)) ⌝ }
+    ensures { λ r. ⌜ answered r (now (out .exit)) ≡ transformBoxCall (now (b .entry)) (now (m .entry)) (now (out .entry)) ⌝ }
 {
     verdict::bbox_calls::transform(b, m, out).status()
 }

@@ -4,14 +4,15 @@ use mathlib.Core.Bool.{Bool, true, false, not, _&&_}
 use mathlib.Core.List.{List, [], _∷_}
 use Prim.Native.Nat.{ℕ, suc, _+_, _-_, _*_, _<_, _≤_}
 use native.Mathlib.Omega.{arith}
-use lib.ListN.{length, take, drop, length-drop}
-use lib.Seq.{drop-drop, getD-take, getD-drop, length-take-le}
+use lib.ListN.{take, drop}
+use lib.Seq.{drop-drop, getD-take, getD-drop}
 use lib.Ieee.{Float, nan}
+use Rattle.number.specs.Limits.{boxLength, flagPlace}
 use Rattle.number.specs.Slice.{at}
 use Rattle.verdict.specs.BBox.{isFlag, boxOf, combined}
 use Rattle.verdict.specs.declared.bbox.BBox3d.{BBox3d}
 use Rattle.verdict.proofs.Flags.{negated}
-use Rattle.group.specs.Group.{boxLength, records, combinedWith, allFlagged}
+use Rattle.group.specs.Group.{records, combinedWith, allFlagged}
 
 -- record i of a slice, and the records from it on, of n
 abbrev pub recordAt : List Float → ℕ → List Float
@@ -35,17 +36,13 @@ nothing n s i h = let e : n - i ≡ 0 = omega arith in ap (λ (k : ℕ). records
 pub all-left : (n : ℕ) (s : List Float) → recordsLeft n s 0 ≡ records n s
 all-left n s = let e : n - 0 ≡ n = omega arith in ap (λ (k : ℕ). records k s) e
 
--- a record is as long as one
-pub record-length : (s : List Float) (i : ℕ) → i * boxLength + boxLength ≤ length s → length (recordAt s i) ≡ boxLength
-record-length s i h = length-take-le boxLength (drop (i * boxLength) s) (let e = length-drop (i * boxLength) s in omega arith)
-
 -- ---- the flags
 
 -- the flag of record i, where it stands in the slice
-flag-at : (s : List Float) (i : ℕ) → at (recordAt s i) 22 ≡ at s (i * boxLength + 22)
-flag-at s i = getD-take boxLength (drop (i * boxLength) s) 22 nan (omega arith) ∙ getD-drop (i * boxLength) s 22 nan
+flag-at : (s : List Float) (i : ℕ) → at (recordAt s i) flagPlace ≡ at s (i * boxLength + flagPlace)
+flag-at s i = getD-take boxLength (drop (i * boxLength) s) flagPlace nan (omega arith) ∙ getD-drop (i * boxLength) s flagPlace nan
 
-module _ (n : ℕ) (s : List Float) (i : ℕ) (z : Bool) (h : i < n) (q : z ≡ isFlag (at s (i * boxLength + 22))) where
+module _ (n : ℕ) (s : List Float) (i : ℕ) (z : Bool) (h : i < n) (q : z ≡ isFlag (at s (i * boxLength + flagPlace))) where
   tested : allFlagged (recordsLeft n s i) ≡ (z && allFlagged (recordsLeft n s (i + 1)))
   unfolding allFlagged
   tested =

@@ -10,17 +10,18 @@ use lib.Dec.{ltb, leb}
 use lib.ListN.{length, take, drop}
 use lib.Seq.{take-all}
 use lib.Ieee.{Float}
+use Rattle.number.specs.Limits.{boxLength}
 use Rattle.number.specs.Answer.{Reply, refuse, write, reply, unless, has}
 use Rattle.number.specs.Slice.{stored}
 use Rattle.number.specs.declared.answer.Written.the-variants.{Done}
 use Rattle.verdict.specs.BBox.{boxOf, numbers}
 use Rattle.verdict.proofs.Flags.{negated}
-use Rattle.group.specs.Group.{boxLength, records, countOf, recordsOf, combinedWith, grouped, isGroup, isWhole, allFlagged, groupCall}
+use Rattle.group.specs.Group.{records, boxCount, recordsOf, combinedWith, grouped, isGroup, isWhole, allFlagged, groupCall}
 
 -- ---- what is written
 
 -- "A single box comes back as it is."
-pub single : (s : List Float) → countOf s ≡ 1 → length s % boxLength ≡ 0 → s ≡ grouped (recordsOf s)
+pub single : (s : List Float) → boxCount s ≡ 1 → length s % boxLength ≡ 0 → s ≡ grouped (recordsOf s)
 unfolding records grouped
 single s e m =
     let l : length s ≤ boxLength = omega (arith, div-add-mod' (length s) boxLength) in
@@ -39,7 +40,7 @@ abbrev inGroup : ℕ → Bool
 inGroup n = ltb 0 n && leb n 5888
 
 module _ (s out : List Float) where
-  abbrev answer : Bool → Bool → Bool → Bool → Reply
+  abbrev answer : Bool → Bool → Bool → Bool → Reply Float
   answer group whole room flags =
       unless group (refuse 11 out)
       (unless whole (refuse 1 out) (unless room (refuse 2 out) (unless flags (refuse 3 out) (write (grouped (recordsOf s))))))

@@ -4,6 +4,7 @@ use mathlib.Core.Bool.{Bool, true, false}
 use mathlib.Core.List.{List}
 use lib.ListN.{length}
 use lib.Ieee.{Float, eq, round}
+use Rattle.number.specs.Limits.{boxLength}
 use Rattle.number.specs.Answer.{write, leaving}
 use Rattle.number.proofs.Refusals.{has-yes}
 use Rattle.matrix.specs.Constants.{one}
@@ -25,7 +26,7 @@ pub read-back : (b : BBox3d) → boxOf (numbers b) ≡ b
 read-back b = ap (box (b .range) (b .matrix)) (flag-back (b .flag))
 
 -- `combine` of two records, in a slice of its record's length
-pub combine-writes : (a b out : List Float) → length a ≡ 23 → length b ≡ 23 → length out ≡ 23 → flagged a ≡ true → flagged b ≡ true
+pub combine-writes : (a b out : List Float) → length a ≡ boxLength → length b ≡ boxLength → length out ≡ boxLength → flagged a ≡ true → flagged b ≡ true
     → combineCall a b out ≡ write (numbers (combined (boxOf a) (boxOf b)))
 unfolding combineCall leaving
-combine-writes a b out h i j f g = rw (has-yes 23 a h, has-yes 23 b i, has-yes 23 out j, f, g)
+combine-writes a b out h i j f g = rw (has-yes boxLength a h, has-yes boxLength b i, has-yes boxLength out j, f, g)

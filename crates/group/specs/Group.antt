@@ -5,6 +5,7 @@ use mathlib.Core.List.{List, [], _∷_}
 use lib.Dec.{eqb, ltb, leb}
 use lib.ListN.{length, take, drop}
 use lib.Ieee.{Float}
+use Rattle.number.specs.Limits.{boxLength, mostBoxes}
 use Rattle.number.specs.Answer.{Reply, refuse, write, unless, has}
 use Rattle.verdict.specs.BBox.{numbers, boxOf, combined}
 use Rattle.verdict.specs.BBoxCalls.{flagged}
@@ -12,23 +13,17 @@ use Rattle.verdict.specs.declared.bbox.BBox3d.{BBox3d}
 
 -- ---- its records: "A group is a slice of 1 to 256 box records"
 
--- how many numbers a box record has, and how many records a group has at most
-abbrev pub boxLength : ℕ
-boxLength = 23
-
-abbrev pub mostBoxes : ℕ
-mostBoxes = 256
-
 -- n records of a slice, from its first number on
 unfoldable pub records : ℕ → List Float → List (List Float)
 records zero s = []
 records (suc n) s = take boxLength s ∷ records n (drop boxLength s)
 
-abbrev pub countOf : List Float → ℕ
-countOf s = length s / boxLength
+-- how many records it has
+abbrev pub boxCount : List Float → ℕ
+boxCount s = length s / boxLength
 
 abbrev pub recordsOf : List Float → List (List Float)
-recordsOf s = records (countOf s) s
+recordsOf s = records (boxCount s) s
 
 -- ---- its box
 
@@ -56,7 +51,7 @@ unfoldable pub allFlagged : List (List Float) → Bool
 allFlagged [] = true
 allFlagged (s ∷ ss) = flagged s && allFlagged ss
 
-unfoldable pub groupCall : List Float → List Float → Reply
+unfoldable pub groupCall : List Float → List Float → Reply Float
 unfolding records allFlagged grouped
 groupCall s out =
     unless (isGroup s) (refuse 11 out)

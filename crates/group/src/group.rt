@@ -2,26 +2,23 @@
 ghost use mathlib.Core.Path.{_≡_};
 ghost use Prim.Native.Nat.{_+_, _-_, _*_, _≤_};
 ghost use lib.ListN.{length, take, drop};
-ghost use Rattle.matrix.specs.Inverse.{inverseAbove};
-ghost use Rattle.verdict.specs.BBox.{boxOf, boxEpsilon, intoBox, combined};
-ghost use Rattle.group.specs.Group.{boxLength, records, combinedWith, allFlagged};
-ghost use Rattle.group.specs.Kept.{opened, keptBox};
-use matrix::inverse::Inverted;
+ghost use Rattle.number.specs.Limits.{boxLength};
+ghost use Rattle.verdict.specs.BBox.{boxOf, intoBox, combined};
+ghost use Rattle.group.specs.Group.{records, combinedWith, allFlagged};
+ghost use Rattle.group.specs.Steps.{boxIn};
 use matrix::matrix::Mat4d;
 use matrix::range::Range3d;
-use matrix::vec::Vec3d;
-use matrix::vec::Vec4d;
+use number::limits::BOX_LENGTH;
+use number::limits::FLAG_PLACE;
+use number::limits::MOST_BOXES;
 use verdict::bbox::BBox3d;
-use verdict::bbox::PRECISION_LIMIT;
+use verdict::bbox::Inverse;
 use verdict::bbox::either;
 use verdict::bbox::is_flag;
 use verdict::bbox::preferred;
 
-// The length of a box record.
-pub const BOX_LENGTH: usize = 23;
-
-// The most numbers of a group, those of 256 boxes.
-pub const MOST_NUMBERS: usize = 5888;
+// The most numbers of a group, those of the most boxes.
+pub const MOST_NUMBERS: usize = MOST_BOXES * BOX_LENGTH;
 
 // Record i of a group.
 fn record(boxes: &[f64], i: usize) -> &[f64]
@@ -33,75 +30,6 @@ fn record(boxes: &[f64], i: usize) -> &[f64]
     &boxes[from..to]
 }
 
-// The box of a record.
-fn load(s: &[f64]) -> BBox3d
-    requires { ⌜ length (now s) ≡ boxLength ⌝ }
-    ensures { λ r. ⌜ r ≡ boxOf (now (s .entry)) ⌝ }
-{
-    BBox3d {
-        range: Range3d {
-            min: Vec3d {
-                x: s[0],
-                y: s[1],
-                z: s[2],
-            },
-            max: Vec3d {
-                x: s[3],
-                y: s[4],
-                z: s[5],
-            },
-        },
-        matrix: Mat4d {
-            r0: Vec4d {
-                x: s[6],
-                y: s[7],
-                z: s[8],
-                w: s[9],
-            },
-            r1: Vec4d {
-                x: s[10],
-                y: s[11],
-                z: s[12],
-                w: s[13],
-            },
-            r2: Vec4d {
-                x: s[14],
-                y: s[15],
-                z: s[16],
-                w: s[17],
-            },
-            r3: Vec4d {
-                x: s[18],
-                y: s[19],
-                z: s[20],
-                w: s[21],
-            },
-        },
-        flag: s[22] == 1.0,
-    }
-}
-
-// The inverse of a box's matrix, and whether there is one.
-struct Inverse {
-    matrix: Mat4d,
-    exists: bool,
-}
-
-fn inverse_of(m: Mat4d) -> Inverse
-    ensures { λ r. ⌜ r ≡ opened (inverseAbove boxEpsilon m) ⌝ }
-{
-    let Inverted::Matrix(matrix) = m.inverse_above(PRECISION_LIMIT) else {
-        return Inverse {
-            matrix: Mat4d::IDENTITY,
-            exists: false,
-        };
-    };
-    Inverse {
-        matrix,
-        exists: true,
-    }
-}
-
 // Whose space a box that holds two others is in.
 enum Space {
     First,
@@ -110,26 +38,26 @@ enum Space {
 }
 
 // The range that holds two boxes, and its space.
-struct Kept {
+struct RangeIn {
     range: Range3d,
     space: Space,
 }
 
-// What `BBox3d::combine` keeps of two boxes, whose inverses are known.
-fn choose(a: BBox3d, into_a: Inverse, b: BBox3d, into_b: Inverse) -> Kept
-    requires { ⌜ («into_a» ≡ opened (intoBox a)) × («into_b» ≡ opened (intoBox b)) ⌝ }
-    ensures { λ r. ⌜ keptBox a b r ≡ combined a b ⌝ }
+// The range of what `BBox3d::combine` makes of two boxes, whose inverses are known, and its space.
+fn choose(a: BBox3d, into_a: Inverse, b: BBox3d, into_b: Inverse) -> RangeIn
+    requires { ⌜ («into_a» ≡ intoBox a) × («into_b» ≡ intoBox b) ⌝ }
+    ensures { λ r. ⌜ boxIn a b r ≡ combined a b ⌝ }
 {
     if a.range.is_empty() {
         let range = b.range;
-        return Kept {
+        return RangeIn {
             range,
             space: Space::Second,
         };
     }
     if b.range.is_empty() {
         let range = a.range;
-        return Kept {
+        return RangeIn {
             range,
             space: Space::First,
         };
@@ -137,13 +65,13 @@ fn choose(a: BBox3d, into_a: Inverse, b: BBox3d, into_b: Inverse) -> Kept
     if !into_a.exists {
         if !into_b.exists {
             let range = a.aligned_with(b).range;
-            return Kept {
+            return RangeIn {
                 range,
                 space: Space::World,
             };
         }
         let range = b.extended_by(a, into_b.matrix).range;
-        return Kept {
+        return RangeIn {
             range,
             space: Space::Second,
         };
@@ -151,7 +79,7 @@ fn choose(a: BBox3d, into_a: Inverse, b: BBox3d, into_b: Inverse) -> Kept
     let first = a.extended_by(b, into_a.matrix);
     if !into_b.exists {
         let range = first.range;
-        return Kept {
+        return RangeIn {
             range,
             space: Space::First,
         };
@@ -159,13 +87,13 @@ fn choose(a: BBox3d, into_a: Inverse, b: BBox3d, into_b: Inverse) -> Kept
     let second = b.extended_by(a, into_b.matrix);
     if preferred(first.volume(), second.volume()) {
         let range = first.range;
-        return Kept {
+        return RangeIn {
             range,
             space: Space::First,
         };
     }
     let range = second.range;
-    Kept {
+    RangeIn {
         range,
         space: Space::Second,
     }
@@ -178,7 +106,7 @@ pub(crate) fn all_flagged(boxes: &[f64], count: usize) -> bool
 {
     let mut i: usize = 0;
     while i < count {
-        if !is_flag(boxes[i * BOX_LENGTH + 22]) {
+        if !is_flag(boxes[i * BOX_LENGTH + FLAG_PLACE]) {
             return false;
         }
         i += 1;
@@ -191,15 +119,15 @@ pub(crate) fn combine(boxes: &[f64], count: usize) -> BBox3d
     requires { ⌜ (length (now boxes) ≡ count * boxLength) × (2 ≤ count) ⌝ }
     ensures { λ r. ⌜ r ≡ combinedWith (boxOf (take boxLength (now (boxes .entry)))) (records (count - 1) (drop boxLength (now (boxes .entry)))) ⌝ }
 {
-    let mut group = load(record(boxes, 0));
-    let mut inverse = inverse_of(group.matrix);
+    let mut group = BBox3d::from_record(record(boxes, 0));
+    let mut inverse = group.inverse();
     let mut i: usize = 1;
     while i < count {
-        let next = load(record(boxes, i));
-        let into_next = inverse_of(next.matrix);
-        let kept = choose(group, inverse, next, into_next);
-        let range = kept.range;
-        let space = kept.space;
+        let next = BBox3d::from_record(record(boxes, i));
+        let into_next = next.inverse();
+        let chosen = choose(group, inverse, next, into_next);
+        let range = chosen.range;
+        let space = chosen.space;
         group.flag = either(group.flag, next.flag);
         group.range = range;
         i += 1;
@@ -213,7 +141,7 @@ pub(crate) fn combine(boxes: &[f64], count: usize) -> BBox3d
             Space::World => {
                 let matrix = Mat4d::IDENTITY;
                 group.matrix = matrix;
-                inverse = inverse_of(matrix);
+                inverse = group.inverse();
             }
         }
     }

@@ -3,10 +3,10 @@ ghost use mathlib.Core.Path.{_≡_};
 ghost use Rattle.number.specs.Answer.{reply};
 ghost use Rattle.group.specs.Group.{groupCall};
 use crate::group;
-use crate::group::BOX_LENGTH;
 use crate::group::MOST_NUMBERS;
 use number::answer::Refusal;
 use number::answer::Written;
+use number::limits::BOX_LENGTH;
 use number::slice;
 
 // One box that holds those of a group, combined left to right. A single box comes back as it is.

@@ -4,6 +4,8 @@ pub mod Same
 pub mod Composed
 pub mod Emptiness
 pub mod Settled
+pub mod Axes
+pub mod EveryOrder
 pub mod Signs
 pub mod Length
 pub mod Worked

@@ -2,7 +2,7 @@
 use mathlib.Core.Path.{_≡_, refl}
 use lib.Count.{trailingZeros}
 use lib.Ieee.{binary64, ofBits, round, units, odd, size, span, climb}
-use Rattle.matrix.specs.Constants.{positiveZero, one, half, minLength, singularDeterminant, largest32}
+use Rattle.matrix.specs.Constants.{positiveZero, one, half, minLength, singularDeterminant}
 
 pub zero-bits : ofBits binary64 0 ≡ positiveZero
 unfolding ofBits round units odd size span climb trailingZeros
@@ -23,7 +23,3 @@ min-length-bits = refl
 pub singular-bits : ofBits binary64 0x3d71_9799_812d_ea11 ≡ singularDeterminant
 unfolding ofBits round units odd size span climb trailingZeros
 singular-bits = refl
-
-pub largest-bits : ofBits binary64 0x47ef_ffff_e000_0000 ≡ largest32
-unfolding ofBits round units odd size span climb trailingZeros
-largest-bits = refl

@@ -3,6 +3,7 @@
 use mathlib.Core.Bool.{Bool, _&&_}
 use mathlib.Core.List.{List}
 use lib.Ieee.{Float}
+use Rattle.number.specs.Limits.{pointLength, homogeneousLength, rangeLength, matrixLength, cornersLength}
 use Rattle.number.specs.Answer.{Reply, refuse, write, Outcome, has, leaving, writing, answering}
 use Rattle.matrix.specs.declared.inverse.Inverted.{Inverted}
 use Rattle.matrix.specs.declared.inverse.Inverted.the-variants.{Matrix, Singular}
@@ -14,58 +15,58 @@ use Rattle.matrix.specs.Range.{rangeOf, bounds, isEmpty, union, intersec
 
 -- ---- matrices
 
-unfoldable pub productCall : List Float → List Float → List Float → Reply
-productCall a b out = writing (has 16 a && has 16 b) 16 (entries (product (matrixOf a) (matrixOf b))) out
+unfoldable pub productCall : List Float → List Float → List Float → Reply Float
+productCall a b out = writing (has matrixLength a && has matrixLength b) matrixLength (entries (product (matrixOf a) (matrixOf b))) out
 
-unfoldable pub transposeCall : List Float → List Float → Reply
-transposeCall m out = writing (has 16 m) 16 (entries (transpose (matrixOf m))) out
+unfoldable pub transposeCall : List Float → List Float → Reply Float
+transposeCall m out = writing (has matrixLength m) matrixLength (entries (transpose (matrixOf m))) out
 
 -- "4 is singular"
-abbrev pub inverseReply : Inverted → List Float → Reply
+abbrev pub inverseReply : Inverted → List Float → Reply Float
 inverseReply (Matrix m) out = write (entries m)
 inverseReply Singular out = refuse 4 out
 
-unfoldable pub inverseCall : List Float → List Float → Reply
-inverseCall m out = leaving (has 16 m) 16 (inverseReply (inverse (matrixOf m)) out) out
+unfoldable pub inverseCall : List Float → List Float → Reply Float
+inverseCall m out = leaving (has matrixLength m) matrixLength (inverseReply (inverse (matrixOf m)) out) out
 
-unfoldable pub transformCall : List Float → List Float → List Float → Reply
-transformCall m p out = writing (has 16 m && has 3 p) 3 (coordinates (transformedPoint (matrixOf m) (vec3Of p))) out
+unfoldable pub transformCall : List Float → List Float → List Float → Reply Float
+transformCall m p out = writing (has matrixLength m && has pointLength p) pointLength (coordinates (transformedPoint (matrixOf m) (vec3Of p))) out
 
-unfoldable pub affineCall : List Float → List Float → List Float → Reply
-affineCall m p out = writing (has 16 m && has 3 p) 3 (coordinates (affine (matrixOf m) (vec3Of p))) out
+unfoldable pub affineCall : List Float → List Float → List Float → Reply Float
+affineCall m p out = writing (has matrixLength m && has pointLength p) pointLength (coordinates (affine (matrixOf m) (vec3Of p))) out
 
-unfoldable pub homogeneousCall : List Float → List Float → List Float → Reply
-homogeneousCall m v out = writing (has 16 m && has 4 v) 4 (coordinates4 (homogeneous (matrixOf m) (vec4Of v))) out
+unfoldable pub homogeneousCall : List Float → List Float → List Float → Reply Float
+homogeneousCall m v out = writing (has matrixLength m && has homogeneousLength v) homogeneousLength (coordinates4 (homogeneous (matrixOf m) (vec4Of v))) out
 
-unfoldable pub directionCall : List Float → List Float → List Float → Reply
-directionCall m v out = writing (has 16 m && has 3 v) 3 (coordinates (direction (matrixOf m) (vec3Of v))) out
+unfoldable pub directionCall : List Float → List Float → List Float → Reply Float
+directionCall m v out = writing (has matrixLength m && has pointLength v) pointLength (coordinates (direction (matrixOf m) (vec3Of v))) out
 
 unfoldable pub determinantCall : List Float → Outcome Float
-determinantCall m = answering (has 16 m) (determinant3 (matrixOf m))
+determinantCall m = answering (has matrixLength m) (determinant3 (matrixOf m))
 
 unfoldable pub rightHandedCall : List Float → Outcome Bool
-rightHandedCall m = answering (has 16 m) (rightHanded (matrixOf m))
+rightHandedCall m = answering (has matrixLength m) (rightHanded (matrixOf m))
 
 -- ---- ranges
 
 unfoldable pub isEmptyCall : List Float → Outcome Bool
-isEmptyCall r = answering (has 6 r) (isEmpty (rangeOf r))
+isEmptyCall r = answering (has rangeLength r) (isEmpty (rangeOf r))
 
-unfoldable pub unionCall : List Float → List Float → List Float → Reply
-unionCall a b out = writing (has 6 a && has 6 b) 6 (bounds (union (rangeOf a) (rangeOf b))) out
+unfoldable pub unionCall : List Float → List Float → List Float → Reply Float
+unionCall a b out = writing (has rangeLength a && has rangeLength b) rangeLength (bounds (union (rangeOf a) (rangeOf b))) out
 
-unfoldable pub intersectionCall : List Float → List Float → List Float → Reply
-intersectionCall a b out = writing (has 6 a && has 6 b) 6 (bounds (intersection (rangeOf a) (rangeOf b))) out
+unfoldable pub intersectionCall : List Float → List Float → List Float → Reply Float
+intersectionCall a b out = writing (has rangeLength a && has rangeLength b) rangeLength (bounds (intersection (rangeOf a) (rangeOf b))) out
 
-unfoldable pub midpointCall : List Float → List Float → Reply
-midpointCall r out = writing (has 6 r) 3 (coordinates (midpoint (rangeOf r))) out
+unfoldable pub midpointCall : List Float → List Float → Reply Float
+midpointCall r out = writing (has rangeLength r) pointLength (coordinates (midpoint (rangeOf r))) out
 
 unfoldable pub distanceSquaredCall : List Float → List Float → Outcome Float
-distanceSquaredCall r p = answering (has 6 r && has 3 p) (distanceSquared (rangeOf r) (vec3Of p))
+distanceSquaredCall r p = answering (has rangeLength r && has pointLength p) (distanceSquared (rangeOf r) (vec3Of p))
 
-unfoldable pub transformedCall : List Float → List Float → List Float → Reply
-transformedCall r m out = writing (has 6 r && has 16 m) 6 (bounds (transformed (rangeOf r) (matrixOf m))) out
+unfoldable pub transformedCall : List Float → List Float → List Float → Reply Float
+transformedCall r m out = writing (has rangeLength r && has matrixLength m) rangeLength (bounds (transformed (rangeOf r) (matrixOf m))) out
 
 -- "Corners write 24 numbers."
-unfoldable pub cornersCall : List Float → List Float → Reply
-cornersCall r out = writing (has 6 r) 24 (corners (rangeOf r) 8) out
+unfoldable pub cornersCall : List Float → List Float → Reply Float
+cornersCall r out = writing (has rangeLength r) cornersLength (corners (rangeOf r) 8) out

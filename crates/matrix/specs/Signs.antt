@@ -1,12 +1,14 @@
--- What the numbers of a printed range do not depend on, signs of zeros included, and where a bound is -0. Statements; proofs/Signs proves them.
+-- What the numbers of a printed range do not depend on, signs of zeros included, and which zero a bound is. Statements; proofs/EveryOrder and proofs/Signs prove
+-- them.
 use mathlib.Core.Path.{_≡_}
-use mathlib.Core.Bool.{true, false}
+use mathlib.Core.Bool.{Bool, true, false, _&&_, _||_}
 use mathlib.Core.List.{List, [], _∷_, _++_, List·Permᴰ}
 use mathlib.Core.Logic.{_↔_}
 use Prim.Native.Nat.{ℕ, _<_}
 use lib.Ieee.{Float, nan, neg, isNan}
 use Rattle.number.specs.Arithmetic.{_⊗_, zeroOf, minOf, maxOf}
 use Rattle.number.specs.Extremes.{Value}
+use Rattle.matrix.specs.declared.vec.Vec3d.{Vec3d}
 use Rattle.matrix.specs.declared.matrix.Mat4d.{Mat4d}
 use Rattle.matrix.specs.declared.range.Range3d.{Range3d}
 use Rattle.matrix.specs.Constants.{rounded, positiveZero}
@@ -69,6 +71,37 @@ pub record NanGrouping : Type 0 where
   pub empty : isEmpty (union (cube nan positiveZero) (cube (rounded 5 1) nan)) ≡ true
   pub first-two : union (union (cube nan positiveZero) (cube (rounded 5 1) nan)) (cube (neg (rounded 3 1)) (neg (rounded 1 1))) ≡ cube (neg (rounded 3 1)) (neg (rounded 1 1))
   pub last-two : union (cube nan positiveZero) (union (cube (rounded 5 1) nan) (cube (neg (rounded 3 1)) (neg (rounded 1 1)))) ≡ cube (neg (rounded 3 1)) positiveZero
+
+-- ---- a bound that is chosen of two zeros
+
+-- Where along an axis u and v have zeros, of the signs s and t, w has the zero of the sign that comes of them. The sign of -0 is true.
+abbrev pub ZerosChosen : (Bool → Bool → Bool) → Vec3d → Vec3d → Vec3d → Type 0
+ZerosChosen sign u v w = (i : ℕ) → i < 3 → (s t : Bool) → axis u i ≡ zeroOf s → axis v i ≡ zeroOf t → axis w i ≡ zeroOf (sign s t)
+
+-- "the negative one if either is negative"
+abbrev pub NegativeIfEither : Vec3d → Vec3d → Vec3d → Type 0
+NegativeIfEither = ZerosChosen _||_
+
+-- "the positive one if either is positive"
+abbrev pub PositiveIfEither : Vec3d → Vec3d → Vec3d → Type 0
+PositiveIfEither = ZerosChosen _&&_
+
+-- A union's lower bounds are the smaller numbers, and its upper ones the larger.
+pub record UnionZeros (a b : Range3d) : Type 0 where
+  pub lower : NegativeIfEither (a .min) (b .min) (union a b .min)
+  pub upper : PositiveIfEither (a .max) (b .max) (union a b .max)
+
+-- of an empty range and another nothing is chosen: the union is one of them as it is
+abbrev pub UnionSigns : Type 0
+UnionSigns = (a b : Range3d) → isEmpty a ≡ false → isEmpty b ≡ false → UnionZeros a b
+
+-- An intersection's are the other way about.
+pub record IntersectionZeros (a b : Range3d) : Type 0 where
+  pub lower : PositiveIfEither (a .min) (b .min) (intersection a b .min)
+  pub upper : NegativeIfEither (a .max) (b .max) (intersection a b .max)
+
+abbrev pub IntersectionSigns : Type 0
+IntersectionSigns = (a b : Range3d) → IntersectionZeros a b
 
 -- ---- a bound that is -0
 

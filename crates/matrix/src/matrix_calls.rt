@@ -12,18 +12,21 @@ use number::answer::Refusal;
 use number::answer::Scalar;
 use number::answer::Verdict;
 use number::answer::Written;
+use number::limits::HOMOGENEOUS_LENGTH;
+use number::limits::MATRIX_LENGTH;
+use number::limits::POINT_LENGTH;
 
 // The product of two matrices.
 pub fn product(a: &[f64], b: &[f64], out: &mut [f64]) -> Written
     ensures { λ r. ⌜ reply r (now (out .exit)) ≡ productCall (now (a .entry)) (now (b .entry)) (now (out .entry)) ⌝ }
 {
-    if a.len() != 16 {
+    if a.len() != MATRIX_LENGTH {
         return Written::Refused(Refusal::InputLength);
     }
-    if b.len() != 16 {
+    if b.len() != MATRIX_LENGTH {
         return Written::Refused(Refusal::InputLength);
     }
-    if out.len() != 16 {
+    if out.len() != MATRIX_LENGTH {
         return Written::Refused(Refusal::OutputLength);
     }
     let right = Mat4d::load(b);
@@ -41,10 +44,10 @@ pub fn product(a: &[f64], b: &[f64], out: &mut [f64]) -> Written
 pub fn transpose(m: &[f64], out: &mut [f64]) -> Written
     ensures { λ r. ⌜ reply r (now (out .exit)) ≡ transposeCall (now (m .entry)) (now (out .entry)) ⌝ }
 {
-    if m.len() != 16 {
+    if m.len() != MATRIX_LENGTH {
         return Written::Refused(Refusal::InputLength);
     }
-    if out.len() != 16 {
+    if out.len() != MATRIX_LENGTH {
         return Written::Refused(Refusal::OutputLength);
     }
     Mat4d::load(m).transpose().store(out);
@@ -55,10 +58,10 @@ pub fn transpose(m: &[f64], out: &mut [f64]) -> Written
 pub fn inverse(m: &[f64], out: &mut [f64]) -> Written
     ensures { λ r. ⌜ reply r (now (out .exit)) ≡ inverseCall (now (m .entry)) (now (out .entry)) ⌝ }
 {
-    if m.len() != 16 {
+    if m.len() != MATRIX_LENGTH {
         return Written::Refused(Refusal::InputLength);
     }
-    if out.len() != 16 {
+    if out.len() != MATRIX_LENGTH {
         return Written::Refused(Refusal::OutputLength);
     }
     let matrix = Mat4d::load(m);
@@ -80,13 +83,13 @@ pub fn inverse(m: &[f64], out: &mut [f64]) -> Written
 pub fn transform(m: &[f64], p: &[f64], out: &mut [f64]) -> Written
     ensures { λ r. ⌜ reply r (now (out .exit)) ≡ transformCall (now (m .entry)) (now (p .entry)) (now (out .entry)) ⌝ }
 {
-    if m.len() != 16 {
+    if m.len() != MATRIX_LENGTH {
         return Written::Refused(Refusal::InputLength);
     }
-    if p.len() != 3 {
+    if p.len() != POINT_LENGTH {
         return Written::Refused(Refusal::InputLength);
     }
-    if out.len() != 3 {
+    if out.len() != POINT_LENGTH {
         return Written::Refused(Refusal::OutputLength);
     }
     Mat4d::load(m).transform(Vec3d::load(p)).store(out);
@@ -97,13 +100,13 @@ pub fn transform(m: &[f64], p: &[f64], out: &mut [f64]) -> Written
 pub fn transform_affine(m: &[f64], p: &[f64], out: &mut [f64]) -> Written
     ensures { λ r. ⌜ reply r (now (out .exit)) ≡ affineCall (now (m .entry)) (now (p .entry)) (now (out .entry)) ⌝ }
 {
-    if m.len() != 16 {
+    if m.len() != MATRIX_LENGTH {
         return Written::Refused(Refusal::InputLength);
     }
-    if p.len() != 3 {
+    if p.len() != POINT_LENGTH {
         return Written::Refused(Refusal::InputLength);
     }
-    if out.len() != 3 {
+    if out.len() != POINT_LENGTH {
         return Written::Refused(Refusal::OutputLength);
     }
     Mat4d::load(m).transform_affine(Vec3d::load(p)).store(out);
@@ -114,13 +117,13 @@ pub fn transform_affine(m: &[f64], p: &[f64], out: &mut [f64]) -> Written
 pub fn transform_homogeneous(m: &[f64], v: &[f64], out: &mut [f64]) -> Written
     ensures { λ r. ⌜ reply r (now (out .exit)) ≡ homogeneousCall (now (m .entry)) (now (v .entry)) (now (out .entry)) ⌝ }
 {
-    if m.len() != 16 {
+    if m.len() != MATRIX_LENGTH {
         return Written::Refused(Refusal::InputLength);
     }
-    if v.len() != 4 {
+    if v.len() != HOMOGENEOUS_LENGTH {
         return Written::Refused(Refusal::InputLength);
     }
-    if out.len() != 4 {
+    if out.len() != HOMOGENEOUS_LENGTH {
         return Written::Refused(Refusal::OutputLength);
     }
     Mat4d::load(m)
@@ -133,13 +136,13 @@ pub fn transform_homogeneous(m: &[f64], v: &[f64], out: &mut [f64]) -> Written
 pub fn transform_dir(m: &[f64], v: &[f64], out: &mut [f64]) -> Written
     ensures { λ r. ⌜ reply r (now (out .exit)) ≡ directionCall (now (m .entry)) (now (v .entry)) (now (out .entry)) ⌝ }
 {
-    if m.len() != 16 {
+    if m.len() != MATRIX_LENGTH {
         return Written::Refused(Refusal::InputLength);
     }
-    if v.len() != 3 {
+    if v.len() != POINT_LENGTH {
         return Written::Refused(Refusal::InputLength);
     }
-    if out.len() != 3 {
+    if out.len() != POINT_LENGTH {
         return Written::Refused(Refusal::OutputLength);
     }
     Mat4d::load(m).transform_dir(Vec3d::load(v)).store(out);
@@ -150,7 +153,7 @@ pub fn transform_dir(m: &[f64], v: &[f64], out: &mut [f64]) -> Written
 pub fn determinant3(m: &[f64]) -> Scalar
     ensures { λ r. ⌜ scalarOf r ≡ determinantCall (now (m .entry)) ⌝ }
 {
-    if m.len() != 16 {
+    if m.len() != MATRIX_LENGTH {
         return Scalar::Refused(Refusal::InputLength);
     }
     Scalar::Value(Mat4d::load(m).determinant3())
@@ -160,11 +163,8 @@ pub fn determinant3(m: &[f64]) -> Scalar
 pub fn is_right_handed(m: &[f64]) -> Verdict
     ensures { λ r. ⌜ verdictOf r ≡ rightHandedCall (now (m .entry)) ⌝ }
 {
-    if m.len() != 16 {
+    if m.len() != MATRIX_LENGTH {
         return Verdict::Refused(Refusal::InputLength);
     }
-    if Mat4d::load(m).is_right_handed() {
-        return Verdict::Yes;
-    }
-    Verdict::No
+    Verdict::of(Mat4d::load(m).is_right_handed())
 }

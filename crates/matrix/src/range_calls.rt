@@ -9,13 +9,17 @@ use number::answer::Refusal;
 use number::answer::Scalar;
 use number::answer::Verdict;
 use number::answer::Written;
+use number::limits::CORNERS_LENGTH;
+use number::limits::MATRIX_LENGTH;
+use number::limits::POINT_LENGTH;
+use number::limits::RANGE_LENGTH;
 use number::slice::at;
 
 // Whether a range holds no point.
 pub fn is_empty(range: &[f64]) -> Verdict
     ensures { λ r. ⌜ verdictOf r ≡ isEmptyCall (now (range .entry)) ⌝ }
 {
-    if range.len() != 6 {
+    if range.len() != RANGE_LENGTH {
         return Verdict::Refused(Refusal::InputLength);
     }
     // the numbers of an axis are read when its turn comes: the first that shows it settles it
@@ -35,13 +39,13 @@ pub fn is_empty(range: &[f64]) -> Verdict
 pub fn union(a: &[f64], b: &[f64], out: &mut [f64]) -> Written
     ensures { λ r. ⌜ reply r (now (out .exit)) ≡ unionCall (now (a .entry)) (now (b .entry)) (now (out .entry)) ⌝ }
 {
-    if a.len() != 6 {
+    if a.len() != RANGE_LENGTH {
         return Written::Refused(Refusal::InputLength);
     }
-    if b.len() != 6 {
+    if b.len() != RANGE_LENGTH {
         return Written::Refused(Refusal::InputLength);
     }
-    if out.len() != 6 {
+    if out.len() != RANGE_LENGTH {
         return Written::Refused(Refusal::OutputLength);
     }
     let first = Range3d::load(a);
@@ -67,13 +71,13 @@ pub fn union(a: &[f64], b: &[f64], out: &mut [f64]) -> Written
 pub fn intersection(a: &[f64], b: &[f64], out: &mut [f64]) -> Written
     ensures { λ r. ⌜ reply r (now (out .exit)) ≡ intersectionCall (now (a .entry)) (now (b .entry)) (now (out .entry)) ⌝ }
 {
-    if a.len() != 6 {
+    if a.len() != RANGE_LENGTH {
         return Written::Refused(Refusal::InputLength);
     }
-    if b.len() != 6 {
+    if b.len() != RANGE_LENGTH {
         return Written::Refused(Refusal::InputLength);
     }
-    if out.len() != 6 {
+    if out.len() != RANGE_LENGTH {
         return Written::Refused(Refusal::OutputLength);
     }
     Range3d::load(a).intersection(Range3d::load(b)).store(out);
@@ -84,10 +88,10 @@ pub fn intersection(a: &[f64], b: &[f64], out: &mut [f64]) -> Written
 pub fn midpoint(range: &[f64], out: &mut [f64]) -> Written
     ensures { λ r. ⌜ reply r (now (out .exit)) ≡ midpointCall (now (range .entry)) (now (out .entry)) ⌝ }
 {
-    if range.len() != 6 {
+    if range.len() != RANGE_LENGTH {
         return Written::Refused(Refusal::InputLength);
     }
-    if out.len() != 3 {
+    if out.len() != POINT_LENGTH {
         return Written::Refused(Refusal::OutputLength);
     }
     Range3d::load(range).midpoint().store(out);
@@ -98,10 +102,10 @@ pub fn midpoint(range: &[f64], out: &mut [f64]) -> Written
 pub fn distance_squared(range: &[f64], p: &[f64]) -> Scalar
     ensures { λ r. ⌜ scalarOf r ≡ distanceSquaredCall (now (range .entry)) (now (p .entry)) ⌝ }
 {
-    if range.len() != 6 {
+    if range.len() != RANGE_LENGTH {
         return Scalar::Refused(Refusal::InputLength);
     }
-    if p.len() != 3 {
+    if p.len() != POINT_LENGTH {
         return Scalar::Refused(Refusal::InputLength);
     }
     Scalar::Value(Range3d::load(range).distance_squared(Vec3d::load(p)))
@@ -111,13 +115,13 @@ pub fn distance_squared(range: &[f64], p: &[f64]) -> Scalar
 pub fn transformed(range: &[f64], m: &[f64], out: &mut [f64]) -> Written
     ensures { λ r. ⌜ reply r (now (out .exit)) ≡ transformedCall (now (range .entry)) (now (m .entry)) (now (out .entry)) ⌝ }
 {
-    if range.len() != 6 {
+    if range.len() != RANGE_LENGTH {
         return Written::Refused(Refusal::InputLength);
     }
-    if m.len() != 16 {
+    if m.len() != MATRIX_LENGTH {
         return Written::Refused(Refusal::InputLength);
     }
-    if out.len() != 6 {
+    if out.len() != RANGE_LENGTH {
         return Written::Refused(Refusal::OutputLength);
     }
     let given = Range3d::load(range);
@@ -142,10 +146,10 @@ pub fn transformed(range: &[f64], m: &[f64], out: &mut [f64]) -> Written
 pub fn corners(range: &[f64], out: &mut [f64]) -> Written
     ensures { λ r. ⌜ reply r (now (out .exit)) ≡ cornersCall (now (range .entry)) (now (out .entry)) ⌝ }
 {
-    if range.len() != 6 {
+    if range.len() != RANGE_LENGTH {
         return Written::Refused(Refusal::InputLength);
     }
-    if out.len() != 24 {
+    if out.len() != CORNERS_LENGTH {
         return Written::Refused(Refusal::OutputLength);
     }
     Range3d::store_corners(range, out);

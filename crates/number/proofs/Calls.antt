@@ -25,7 +25,7 @@ module _ (m k : ℕ) (a b : List Float) where
 
 -- ---- one input, of the length m, and an output of the length n
 
-module _ (m n : ℕ) (call : List Float → List Float → Reply) (f : List Float → List Float → Reply)
+module _ (m n : ℕ) (call : List Float → List Float → Reply Float) (f : List Float → List Float → Reply Float)
     (is : (a out : List Float) → call a out ≡ leaving (has m a) n (f a out) out) (a out : List Float) where
   pub no-input : (length a ≡ m → ⊥) → refuse 1 out ≡ call a out
   no-input h = ways.no-input _ n (f a out) out (ne-eqb _ _ h) ∙ sym (is a out)
@@ -41,7 +41,7 @@ module _ (m n : ℕ) (call : List Float → List Float → Reply) (f : List Floa
 
 -- ---- two inputs, of the lengths m and k
 
-module _ (m k n : ℕ) (call : List Float → List Float → List Float → Reply) (f : List Float → List Float → List Float → Reply)
+module _ (m k n : ℕ) (call : List Float → List Float → List Float → Reply Float) (f : List Float → List Float → List Float → Reply Float)
     (is : (a b out : List Float) → call a b out ≡ leaving (has m a && has k b) n (f a b out) out) (a b out : List Float) where
   pub no-first : (length a ≡ m → ⊥) → refuse 1 out ≡ call a b out
   no-first h = ways.no-input _ n (f a b out) out (first-fails m k a b h) ∙ sym (is a b out)

@@ -13,8 +13,9 @@ use lib.Ieee.{Float, nan, inf, fin, binary64, up, down, nearest}
 use lib.Ieee.Exact.{HasValue}
 use lib.Ieee.Fits.{down-pos}
 use lib.Ieee.Nearest.{closest, closest-same}
+use Rattle.number.specs.Limits.{gridLimit}
 use Rattle.number.specs.Steps.Magnitude.{fieldUnits, unitsOf}
-use Rattle.number.specs.Grid.{signed, wholeNearest, gridLimit, placed}
+use Rattle.number.specs.Grid.{signed, wholeNearest, placed}
 use Rattle.number.proofs.Rounding.{compare-lt, compare-gt, compare-eq, near, closest-zero}
 use Rattle.number.specs.declared.grid.Coordinate.{Coordinate}
 use Rattle.number.specs.declared.grid.Coordinate.the-variants.{On, Off}

@@ -1,6 +1,7 @@
 -- The laws that the proofs of this crate, and of the crates above it, cite.
 pub mod Nan
 pub mod Tests
+pub mod Every
 pub mod Magnitude
 pub mod Extremes
 pub mod JoinedBits
@@ -22,6 +23,7 @@ pub mod RootMiddles
 pub mod NearestRoot
 pub mod SquareRoot
 pub mod Stores
+pub mod Filled
 pub mod Words
 pub mod Centimetres
 pub mod Halves
@@ -32,3 +34,12 @@ pub mod Patterns
 pub mod Worked
 pub mod Ways
 pub mod Calls
+pub mod Comparisons
+pub mod SidesOfZero
+pub mod RuleOfSigns
+pub mod NoOverflow
+pub mod RoundedOrder
+pub mod Monotone
+pub mod RootBracket
+pub mod SumFromZero
+pub mod Commutative

@@ -17,7 +17,7 @@ use Rattle.number.proofs.Spacing.{fits-facts, in-units}
 
 -- ---- tests of natural numbers
 
-same-test : (b c : Bool) → (T b → T c) → (T c → T b) → b ≡ c
+pub same-test : (b c : Bool) → (T b → T c) → (T c → T b) → b ≡ c
 same-test true true f g = refl
 same-test true false f g = absurd (f tt)
 same-test false true f g = absurd (g tt)

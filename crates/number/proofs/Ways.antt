@@ -8,12 +8,12 @@ use borrow.Author.Tests.{eq-eqb, ne-eqb}
 use lib.ListN.{length}
 use lib.Ieee.{Float}
 use Rattle.number.specs.declared.answer.Written.the-variants.{Done}
-use Rattle.number.specs.Answer.{Reply, reply, refuse, write, refused, result, leaving, answering}
+use Rattle.number.specs.Answer.{Reply, reply, refuse, write, Outcome, refused, result, leaving, replied, answering}
 use Rattle.number.specs.Slice.{stored}
 
 -- ---- an operation that writes
 
-module _ (inputs : Bool) (n : ℕ) (done : Reply) (out : List Float) where
+module _ (inputs : Bool) (n : ℕ) (done : Reply Float) (out : List Float) where
   pub no-input : inputs ≡ false → refuse 1 out ≡ leaving inputs n done out
   unfolding leaving
   no-input h = rw h
@@ -29,6 +29,10 @@ module _ (inputs : Bool) (n : ℕ) (done : Reply) (out : List Float) where
   -- the numbers v are stored into a slice of their length
   pub written : (v x : List Float) → inputs ≡ true → length out ≡ n → length v ≡ n → x ≡ stored v out → write v ≡ done → reply Done x ≡ leaving inputs n done out
   written v x h l k e p = ap write (e ∙ ap (λ (t : Bool). cond t v out) (eq-eqb _ _ (k ∙ sym l))) ∙ p ∙ left h l
+
+-- what an answer comes to is what an equal one does
+pub same-reply : {A : Type 0} (f : A → Outcome (List Float)) (out : List Float) {x y : A} → x ≡ y → replied (f x) out ≡ replied (f y) out
+same-reply {A} f out p = ap (λ (x : A). replied (f x) out) p
 
 -- ---- one that answers with a lone number, a yes or a no
 

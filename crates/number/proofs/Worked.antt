@@ -1,9 +1,11 @@
 -- Worked numbers of paper 01, computed from the definitions: the grid's, and a root that later proofs lean on. Assumes nothing.
 use mathlib.Core.Path.{_≡_, refl}
 use Prim.Native.Nat.{ℕ}
+use mathlib.Core.List.{List, [], _∷_}
 use lib.IntN.{pos, negsuc}
-use lib.Ieee.{binary64, ofBits, toBits}
-use Rattle.number.specs.Grid.{centimetres, placed}
+use lib.Ieee.{Float, binary64, ofBits, ofInt, toBits}
+use Rattle.number.specs.Answer.{refuse, write, leaving}
+use Rattle.number.specs.Grid.{centimetres, placed, gridNumbers, gridCall}
 use Rattle.number.specs.Root.{sqrtOf}
 use Rattle.number.specs.declared.grid.Coordinate.{Coordinate}
 use Rattle.number.specs.declared.grid.Coordinate.the-variants.{On, Off}
@@ -41,10 +43,29 @@ passes : metres 0x4084_7800_0000_0000 ≡ On (pos 65500)
 unfolding placed lib.Ieee.mul ofBits
 passes = refl
 
--- 656 is refused
-refused : metres 0x4084_8000_0000_0000 ≡ Off
+-- 656 is off the grid
+off-grid : metres 0x4084_8000_0000_0000 ≡ Off
 unfolding placed lib.Ieee.mul ofBits
-refused = refl
+off-grid = refl
+
+-- ---- the call: "655 passes, 656 is 7"
+
+module _ (a b c : Float) where
+  abbrev room : List Float
+  room = a ∷ b ∷ c ∷ []
+
+  abbrev point : ℕ → List Float
+  point b = ofBits binary64 b ∷ ofBits binary64 0 ∷ ofBits binary64 0 ∷ []
+
+  call-passes : gridCall (point 0x4084_7800_0000_0000) room ≡ write (ofInt binary64 (pos 65500) ∷ ofInt binary64 (pos 0) ∷ ofInt binary64 (pos 0) ∷ [])
+  unfolding gridCall leaving gridNumbers placed lib.Ieee.mul ofBits
+  call-passes = refl
+
+  call-refused : gridCall (point 0x4084_8000_0000_0000) room ≡ refuse 7 room
+  unfolding gridCall leaving gridNumbers placed lib.Ieee.mul ofBits
+  call-refused = refl
+
+-- ---- products of one coordinate, and roots
 
 -- the product just below a half, which adding a half would round to 1, gives 0
 below-half : placed (ofBits binary64 0x3fdf_ffff_ffff_ffff) ≡ On (pos 0)

@@ -11,6 +11,11 @@ use Rattle.number.specs.declared.answer.Written.{Written}
 use Rattle.number.specs.declared.answer.Written.the-variants.{Done, Refused}
 use Rattle.number.specs.declared.answer.Scalar.{Scalar}
 use Rattle.number.specs.declared.answer.Scalar.the-variants.{Value, Refused as NoValue}
+use Rattle.number.specs.declared.answer.Counted.{Counted}
+use Rattle.number.specs.declared.answer.Counted.the-variants.{Count, Refused as NoCount}
+use Rattle.number.specs.declared.answer.Place.{Place}
+use Rattle.number.specs.declared.answer.Place.the-variants.{At, Nowhere, Refused as NoPlace}
+use Rattle.number.specs.Slots.{unused}
 use Rattle.number.specs.declared.answer.Verdict.{Verdict}
 use Rattle.number.specs.declared.answer.Verdict.the-variants.{Yes, No, Refused as NoVerdict}
 
@@ -32,18 +37,18 @@ numberOf PlaneCount = 12
 -- ---- an operation that writes its result into a lent slice
 
 -- What such a call leaves: 0 or the number of its refusal, and what the slice holds afterwards.
-pub record Reply : Type 0 where
+pub record Reply (A : Type 0) : Type 0 where
   pub status : ℕ
-  pub out : List Float
+  pub out : List A
 
-abbrev pub answered : ℕ → List Float → Reply
+abbrev pub answered : {A : Type 0} → ℕ → List A → Reply A
 answered n out = record { status = n; out = out }
 
 -- a refusal preserves the slice
-abbrev pub refuse : ℕ → List Float → Reply
+abbrev pub refuse : {A : Type 0} → ℕ → List A → Reply A
 refuse n out = answered n out
 
-abbrev pub write : List Float → Reply
+abbrev pub write : {A : Type 0} → List A → Reply A
 write v = answered 0 v
 
 -- the number of such an answer
@@ -51,7 +56,7 @@ abbrev pub statusOf : Written → ℕ
 statusOf Done = 0
 statusOf (Refused r) = numberOf r
 
-abbrev pub reply : Written → List Float → Reply
+abbrev pub reply : {A : Type 0} → Written → List A → Reply A
 reply a out = answered (statusOf a) out
 
 -- ---- an operation that answers with a lone number, or with a yes or a no
@@ -69,6 +74,21 @@ abbrev pub verdictOf : Verdict → Outcome Bool
 verdictOf Yes = result true
 verdictOf No = result false
 verdictOf (NoVerdict r) = refused (numberOf r)
+
+-- how many there are
+abbrev pub countedOf : Counted → Outcome ℕ
+countedOf (Count n) = result n
+countedOf (NoCount r) = refused (numberOf r)
+
+-- a place, "counting from 0", or none
+pub data Found : Type 0 where
+  nowhere : Found
+  found : ℕ → Found
+
+abbrev pub placeOf : Place → Outcome Found
+placeOf (At i) = result (found i)
+placeOf Nowhere = result nowhere
+placeOf (NoPlace r) = refused (numberOf r)
 
 -- What such a call leaves where its result goes through a reference: 0 or the number of its refusal, and what stands there afterwards.
 pub record Lone (A : Type 0) : Type 0 where
@@ -89,6 +109,12 @@ putVerdict (refused n) before = lone n before
 putVerdict (result true) before = lone 0 1
 putVerdict (result false) before = lone 0 0
 
+-- the place, and the number of an unused slot for none
+abbrev pub putPlace : Outcome Found → ℕ → Lone ℕ
+putPlace (refused n) before = lone n before
+putPlace (result (found i)) before = lone 0 i
+putPlace (result nowhere) before = lone 0 unused
+
 -- ---- the order of refusals: the first test that fails decides
 
 abbrev pub unless : {A : Type 0} → Bool → A → A → A
@@ -96,16 +122,24 @@ unless true refusal rest = rest
 unless false refusal rest = refusal
 
 -- a slice has the length of its record
-abbrev pub has : ℕ → List Float → Bool
+abbrev pub has : {A : Type 0} → ℕ → List A → Bool
 has n s = eqb (length s) n
 
 -- An operation that leaves a reply once its inputs have their lengths, and out the length n: "1, then 2".
-unfoldable pub leaving : Bool → ℕ → Reply → List Float → Reply
+unfoldable pub leaving : {A : Type 0} → Bool → ℕ → Reply A → List A → Reply A
 leaving inputs n done out = unless inputs (refuse 1 out) (unless (has n out) (refuse 2 out) done)
 
 -- one that then writes its result into out
-abbrev pub writing : Bool → ℕ → List Float → List Float → Reply
+abbrev pub writing : {A : Type 0} → Bool → ℕ → List A → List A → Reply A
 writing inputs n v out = leaving inputs n (write v) out
+
+-- one that may be refused once more before it writes its result
+abbrev pub replied : {A : Type 0} → Outcome (List A) → List A → Reply A
+replied (refused k) out = refuse k out
+replied (result v) out = write v
+
+abbrev pub attempting : {A : Type 0} → Bool → ℕ → Outcome (List A) → List A → Reply A
+attempting inputs n o out = leaving inputs n (replied o out) out
 
 -- One whose result comes back in its answer: "where no slice is lent for a result, 2 is skipped".
 unfoldable pub answering : {A : Type 0} → Bool → A → Outcome A

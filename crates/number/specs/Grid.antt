@@ -2,13 +2,14 @@
 use mathlib.Core.Path.{_≡_}
 use mathlib.Core.Logic.{_⊎_}
 use Prim.Native.Nat.{ℕ, _+_, _-_, _*_, _/_, _%_, _≤_, _<_}
-use mathlib.Core.Bool.{Bool, true, false, cond, _&&_}
+use mathlib.Core.Bool.{Bool, true, false, cond}
 use mathlib.Core.List.{List, [], _∷_, map}
 use lib.Dec.{leb, ltb}
 use lib.IntN.{ℤ, pos, negℤ}
 use lib.Ieee.{Float, nan, inf, fin, binary64, up, down, ofBits, ofInt}
+use Rattle.number.specs.Limits.{pointLength, gridLimit}
 use Rattle.number.specs.Arithmetic.{_⊗_}
-use Rattle.number.specs.Answer.{Reply, refuse, write, unless, has, leaving}
+use Rattle.number.specs.Answer.{Reply, Outcome, refused, result, has, attempting}
 use Rattle.number.specs.declared.grid.Coordinate.{Coordinate}
 use Rattle.number.specs.declared.grid.Coordinate.the-variants.{On, Off}
 
@@ -42,33 +43,31 @@ abbrev pub signed : Bool → ℕ → ℤ
 signed false n = pos n
 signed true n = negℤ (pos n)
 
--- "its rounded size exceeds 65,536"
-abbrev pub gridLimit : ℕ
-gridLimit = 65536
-
 -- the coordinate that a product comes to
 unfoldable pub placed : Float → Coordinate
 placed nan = Off
 placed (inf s) = Off
 placed (fin s m e) = let n = wholeNearest (m * up e) (down e) in cond (leb n gridLimit) (On (signed s n)) Off
 
-abbrev pub onGrid : Coordinate → Bool
-onGrid (On z) = true
-onGrid Off = false
-
--- a whole number as a result: its zero is positive
-abbrev pub wholeOf : Coordinate → Float
-wholeOf (On z) = ofInt binary64 z
-wholeOf Off = nan
+-- what each case of the answer comes to: a whole number, or "7 off the grid"
+abbrev pub coordinateOf : Coordinate → Outcome ℤ
+coordinateOf (On z) = result z
+coordinateOf Off = refused 7
 
 abbrev pub coordinates : List Float → List Coordinate
 coordinates p = map (λ x. placed (centimetres x)) p
 
-abbrev pub every : List Coordinate → Bool
-every [] = true
-every (c ∷ cs) = onGrid c && every cs
+-- a whole number in front of others, as a result: its zero is positive
+abbrev pub inFrontOf : Outcome ℤ → Outcome (List Float) → Outcome (List Float)
+inFrontOf (refused k) others = refused k
+inFrontOf (result z) (refused k) = refused k
+inFrontOf (result z) (result xs) = result (ofInt binary64 z ∷ xs)
+
+-- the numbers of several coordinates, or the refusal of one of them
+unfoldable pub gridNumbers : List Coordinate → Outcome (List Float)
+gridNumbers [] = result []
+gridNumbers (c ∷ cs) = inFrontOf (coordinateOf c) (gridNumbers cs)
 
 -- "1, 2, then 7 if a product is not finite or its rounded size exceeds 65,536"
-unfoldable pub gridCall : List Float → List Float → Reply
-gridCall p out =
-    leaving (has 3 p) 3 (unless (every (coordinates p)) (refuse 7 out) (write (map wholeOf (coordinates p)))) out
+unfoldable pub gridCall : List Float → List Float → Reply Float
+gridCall p out = attempting (has pointLength p) pointLength (gridNumbers (coordinates p)) out

@@ -1,6 +1,7 @@
 // What a call answers: that it wrote its result, a lone number, a yes or a no; or why it was refused.
 ghost use mathlib.Core.Path.{_≡_};
-ghost use Rattle.number.specs.Answer.{numberOf, statusOf, scalarOf, verdictOf, lone, put, putVerdict};
+ghost use Rattle.number.specs.Answer.{numberOf, statusOf, scalarOf, verdictOf, countedOf, placeOf, result, lone, put, putVerdict, putPlace};
+use crate::slots::UNUSED;
 
 pub enum Refusal {
     InputLength,
@@ -30,6 +31,19 @@ pub enum Scalar {
 pub enum Verdict {
     Yes,
     No,
+    Refused(Refusal),
+}
+
+// How many there are.
+pub enum Counted {
+    Count(u32),
+    Refused(Refusal),
+}
+
+// A place, counted from 0, or that there is none.
+pub enum Place {
+    At(u32),
+    Nowhere,
     Refused(Refusal),
 }
 
@@ -83,6 +97,16 @@ impl Scalar {
 }
 
 impl Verdict {
+    // The answer to a test.
+    pub fn of(yes: bool) -> Verdict
+        ensures { λ r. ⌜ verdictOf r ≡ result yes ⌝ }
+    {
+        if yes {
+            return Verdict::Yes;
+        }
+        Verdict::No
+    }
+
     // 1 for a yes and 0 for a no, to where it is lent; 0, or the number of the refusal.
     pub fn put(self, out: &mut u32) -> u32
         ensures { λ r. ⌜ lone r (now (out .exit)) ≡ putVerdict (verdictOf self) (now (out .entry)) ⌝ }
@@ -97,6 +121,40 @@ impl Verdict {
                 0
             }
             Verdict::Refused(r) => r.number(),
+        }
+    }
+}
+
+impl Counted {
+    // The count, where there is one, to where it is lent; 0, or the number of the refusal.
+    pub fn put(self, out: &mut u32) -> u32
+        ensures { λ r. ⌜ lone r (now (out .exit)) ≡ put (countedOf self) (now (out .entry)) ⌝ }
+    {
+        match self {
+            Counted::Count(n) => {
+                *out = n;
+                0
+            }
+            Counted::Refused(r) => r.number(),
+        }
+    }
+}
+
+impl Place {
+    // The place, or what stands in an unused slot, to where it is lent; 0, or the number of the refusal.
+    pub fn put(self, out: &mut u32) -> u32
+        ensures { λ r. ⌜ lone r (now (out .exit)) ≡ putPlace (placeOf self) (now (out .entry)) ⌝ }
+    {
+        match self {
+            Place::At(i) => {
+                *out = i;
+                0
+            }
+            Place::Nowhere => {
+                *out = UNUSED;
+                0
+            }
+            Place::Refused(r) => r.number(),
         }
     }
 }

@@ -4,6 +4,8 @@ ghost use Rattle.number.specs.Answer.{reply};
 ghost use Rattle.number.specs.Grid.{placed, gridCall};
 use crate::answer::Refusal;
 use crate::answer::Written;
+use crate::limits::GRID_LIMIT;
+use crate::limits::POINT_LENGTH;
 use crate::nearest;
 use crate::normalised;
 use crate::slice::at;
@@ -35,7 +37,7 @@ pub fn whole(x: f64) -> Coordinate
     let parts = normalised(magnitude);
     let scale = parts.scale;
     let size = nearest(parts.significand, 1126 - scale);
-    if 65536 < size {
+    if GRID_LIMIT < size {
         return Coordinate::Off;
     }
     if bits != magnitude {
@@ -48,10 +50,10 @@ pub fn whole(x: f64) -> Coordinate
 pub fn grid(p: &[f64], out: &mut [f64]) -> Written
     ensures { λ r. ⌜ reply r (now (out .exit)) ≡ gridCall (now (p .entry)) (now (out .entry)) ⌝ }
 {
-    if p.len() != 3 {
+    if p.len() != POINT_LENGTH {
         return Written::Refused(Refusal::InputLength);
     }
-    if out.len() != 3 {
+    if out.len() != POINT_LENGTH {
         return Written::Refused(Refusal::OutputLength);
     }
     let Coordinate::On(x) = whole(at(p, 0) * 100.0) else {

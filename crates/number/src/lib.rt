@@ -8,9 +8,11 @@ pub mod answer;
 pub mod bytes;
 pub mod format;
 pub mod grid;
+pub mod limits;
 pub mod order;
 pub mod root;
 pub mod slice;
+pub mod slots;
 
 // A magnitude taken apart: significand * 2 ^ (scale - 52) smallest values.
 struct Scaled {

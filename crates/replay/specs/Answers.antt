@@ -6,7 +6,7 @@ use lib.Ieee.{Float, binary64, ofBits}
 use Rattle.number.specs.Answer.{Reply, Outcome, refused, result, refuse, write}
 
 -- a lone number stands first in the slice, if that has room; a refusal preserves the slice
-abbrev pub putNumber : Outcome Float → List Float → Reply
+abbrev pub putNumber : Outcome Float → List Float → Reply Float
 putNumber (refused n) out = refuse n out
 putNumber (result x) out = write (set out 0 x)
 

@@ -1,11 +1,11 @@
-// The operations of the crate `verdict`, each by its code.
+// The operations of the crates `verdict` and `projection`, each by its code.
 use number::slice::at;
+use projection::projection_calls;
 use replay::answer::put_number;
 use replay::answer::put_verdict;
 use verdict::bbox_calls;
 use verdict::frustum_calls;
 use verdict::plane_calls;
-use verdict::projection_calls;
 use verdict::ray_calls;
 
 // The length of a volume that is given with so many other numbers: any up to that of one plane too many.

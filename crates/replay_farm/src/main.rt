@@ -1,13 +1,8 @@
 // Replays recorded farm files, one behind the other on standard input: 32 bits that say how many bytes a file has, the low byte
 // first, and its bytes. For each the program prints its place and its lines.
+use farm::lines::front;
 use farm::lines::lines;
 use number::bytes::word_32;
-
-fn print_lines(file: &[u8]) {
-    let mut text = [0u8; 441];
-    let size = lines(file, &mut text);
-    io::write_all(1, &text[..size]);
-}
 
 fn print_place(place: u64) {
     io::write_all(1, b"file ");
@@ -23,7 +18,8 @@ fn replay_file(place: u64, room: &mut [u8], size: usize) {
     let file = &mut room[0..size];
     io::read_full(0, file);
     print_place(place);
-    print_lines(file);
+    let text = lines(file);
+    io::write_all(1, front(&text.bytes, text.size));
 }
 
 // Replays the next file, and answers whether there was one.

@@ -5,12 +5,7 @@ use lib.Count.{trailingZeros}
 use lib.Ieee.{binary64, ofBits, round, units, odd, size, span, climb}
 use Rattle.matrix.specs.Constants.{rounded}
 use Rattle.verdict.specs.BBox.{boxEpsilon}
-use Rattle.verdict.specs.Projection.{tolerance}
-use Rattle.verdict.specs.Origin.{far}
-
-pub tolerance-bits : ofBits binary64 0x3eb0_c6f7_a0b5_ed8d ≡ tolerance
-unfolding ofBits round units odd size span climb trailingZeros
-tolerance-bits = refl
+use Rattle.verdict.specs.Steps.Intervals.{far}
 
 pub millionth-bits : ofBits binary64 0x3eb0_c6f7_a0b5_ed8d ≡ rounded 1 (10 ^ 6)
 unfolding ofBits round units odd size span climb trailingZeros

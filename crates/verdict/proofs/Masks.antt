@@ -1,8 +1,8 @@
 -- The planes of a view that pass a test, as the bits of a number. Assumes nothing.
 use mathlib.Core.Path.{_≡_, refl, sym, ap, ap₂, _∙_}
-use mathlib.Core.Bool.{Bool, true, false, cond, _&&_, _||_}
+use mathlib.Core.Bool.{Bool, true, false, _&&_, _||_}
 use mathlib.Core.List.{List, [], _∷_}
-use Prim.Native.Nat.{ℕ, suc, _+_, _-_, _*_, _/_, _%_, _^_, _<_}
+use Prim.Native.Nat.{ℕ, _+_, _-_, _*_, _/_, _%_, _^_, _<_}
 use native.Mathlib.Nat.{pow-suc}
 use native.Mathlib.Omega.{arith}
 use borrow.Author.Tests.{eqb-true, eqb-false, eq-eqb, ne-eqb}
@@ -10,9 +10,9 @@ use lib.Bits.{bitAnd, bitOr, and-block, or-block}
 use lib.Dec.{eqb}
 use lib.ListN.{length}
 use lib.Pow.{pow-pos}
+use Rattle.number.specs.Every.{every}
 use Rattle.verdict.specs.declared.plane.Plane.{Plane}
-use Rattle.verdict.specs.Frustum.{every}
-use Rattle.verdict.specs.Passes.{bit, maskOf}
+use Rattle.verdict.specs.Steps.Passes.{bit, maskOf}
 
 pub bit-small : (b : Bool) → bit b < 2
 bit-small true = omega arith

@@ -1,7 +1,6 @@
--- Worked numbers of paper 01 ("Odd inputs", "Slips a rater would miss") on planes, rays and projections, computed from the definitions. Assumes nothing.
+-- Worked numbers of paper 01 ("Odd inputs", "Slips a rater would miss") on planes and rays, computed from the definitions. Assumes nothing.
 use mathlib.Core.Path.{_≡_, refl, ap}
 use mathlib.Core.Bool.{true, false}
-use mathlib.Core.List.{List, _∷_}
 use Prim.Native.Nat.{_^_}
 use lib.Count.{trailingZeros}
 use lib.IntN.{pos, negsuc}
@@ -17,11 +16,8 @@ use Rattle.verdict.specs.declared.plane.Plane.{Plane}
 use Rattle.verdict.specs.declared.ray.Ray.{Ray}
 use Rattle.verdict.specs.declared.ray.PlaneHit.the-variants.{At, Miss}
 use Rattle.verdict.specs.declared.ray.TriangleHit.the-variants.{Hit}
-use Rattle.verdict.specs.declared.projection.Projection.the-variants.{Perspective}
-use Rattle.verdict.specs.declared.projection.Loaded.the-variants.{Params, UnknownKind}
 use Rattle.verdict.specs.Plane.{plane, offset, fromEquation, distanceTo, onPositiveSide}
 use Rattle.verdict.specs.Ray.{ray, planeHit, faced, settled, betaOf, alphaOf, gammaOf, weighed, triangleHit, triangleHitNumbers}
-use Rattle.verdict.specs.Projection.{paramsOf, loaded}
 
 abbrev o : Float
 o = positiveZero
@@ -98,14 +94,3 @@ outside = refl
 no-area : triangleHitNumbers (triangleHit (down half o one) corner (vec one o o) (vec (rounded 2 1) o o)) ≡ refused 5
 unfolding triangleHit planeHit faced weighed betaOf alphaOf gammaOf settled narrowOf normalized lengthOf sqrtOf absOf maxOf isNan add sub mul div neg lt le
 no-area = refl
-
--- ---- kinds of projection
-
--- "a zero of either sign counts as 0"
-negative-zero : (s : List Float) → loaded (neg o ∷ s) ≡ Params (paramsOf Perspective (neg o ∷ s))
-unfolding loaded eq neg round units odd size span climb trailingZeros
-negative-zero s = refl
-
-not-a-kind : (s : List Float) → loaded (nan ∷ s) ≡ UnknownKind
-unfolding loaded eq
-not-a-kind s = refl

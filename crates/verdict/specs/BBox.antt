@@ -1,13 +1,14 @@
 -- Boxes in a space of their own, placed by a matrix, as Gf's documentation has them. Definitions only.
 use Prim.Native.Nat.{_+_, _*_, _^_}
-use mathlib.Core.Bool.{Bool, false, not, cond, _||_}
+use mathlib.Core.Bool.{Bool, true, false, not, cond, _||_}
 use mathlib.Core.List.{List, [], _∷_, _++_}
 use lib.Ieee.{Float, lt, le, eq}
+use Rattle.number.specs.Limits.{rangeLength, flagPlace}
 use Rattle.number.specs.Arithmetic.{_⊖_, _⊗_, absOf, maxOf}
 use Rattle.number.specs.Slice.{at}
 use Rattle.matrix.specs.Constants.{rounded, positiveZero, one}
 use Rattle.matrix.specs.Matrix.{entries, matrix, identity, product, determinant3}
-use Rattle.matrix.specs.Inverse.{inverseAbove, hasInverse}
+use Rattle.matrix.specs.Inverse.{inverseAbove}
 use Rattle.matrix.specs.Transform.{transformed as transformedPoint}
 use Rattle.matrix.specs.Range.{range, rangeOf, bounds, isEmpty, union, size, midpoint, transformed}
 use Rattle.matrix.specs.declared.vec.Vec3d.{Vec3d}
@@ -16,6 +17,7 @@ use Rattle.matrix.specs.declared.range.Range3d.{Range3d}
 use Rattle.matrix.specs.declared.inverse.Inverted.{Inverted}
 use Rattle.matrix.specs.declared.inverse.Inverted.the-variants.{Matrix, Singular}
 use Rattle.verdict.specs.declared.bbox.BBox3d.{BBox3d}
+use Rattle.verdict.specs.declared.bbox.Inverse.{Inverse}
 
 -- ---- its numbers, "Box 23: range, matrix, zero-area flag 0 or 1"
 
@@ -29,7 +31,7 @@ abbrev pub box : Range3d → Mat4d → Bool → BBox3d
 box r m f = record { range = r; matrix = m; flag = f }
 
 abbrev pub boxOf : List Float → BBox3d
-boxOf s = box (rangeOf s) (matrix (λ i j. at s (6 + i * 4 + j))) (eq (at s 22) one)
+boxOf s = box (rangeOf s) (matrix (λ i j. at s (rangeLength + i * 4 + j))) (eq (at s flagPlace) one)
 
 -- "3 means a kind or flag outside its named values; a zero of either sign counts as 0"
 abbrev pub isFlag : Float → Bool
@@ -41,12 +43,17 @@ isFlag x = eq x positiveZero || eq x one
 abbrev pub boxEpsilon : Float
 boxEpsilon = rounded 1 (10 ^ 13)
 
-abbrev pub intoBox : BBox3d → Inverted
-intoBox b = inverseAbove boxEpsilon (b .matrix)
+-- "BBox3d's optional inverse becomes a flag beside a matrix", which is the identity where there is none
+abbrev pub flagBeside : Inverted → Inverse
+flagBeside (Matrix m) = record { matrix = m; exists = true }
+flagBeside Singular = record { matrix = identity; exists = false }
+
+abbrev pub intoBox : BBox3d → Inverse
+intoBox b = flagBeside (inverseAbove boxEpsilon (b .matrix))
 
 -- it has none
 abbrev pub isDegenerate : BBox3d → Bool
-isDegenerate b = not (hasInverse (intoBox b))
+isDegenerate b = not (intoBox b .exists)
 
 -- ---- in the world
 
@@ -64,8 +71,8 @@ volume b =
     cond (isEmpty (b .range)) positiveZero (absOf (determinant3 (b .matrix) ⊗ s .x ⊗ s .y ⊗ s .z))
 
 -- "Apply matrix after the box's own"
-abbrev pub placed : BBox3d → Mat4d → BBox3d
-placed b m = box (b .range) (product (b .matrix) m) (b .flag)
+abbrev pub transformedBox : BBox3d → Mat4d → BBox3d
+transformedBox b m = box (b .range) (product (b .matrix) m) (b .flag)
 
 -- ---- combining
 
@@ -90,12 +97,12 @@ aligned a b = box (union (alignedRange a) (alignedRange b)) identity false
 
 -- Of two ranges that are not empty, by the inverses of their boxes' matrices: one is projected into the other's space, both ways round. A box whose matrix has
 -- no inverse is always the one projected, and two such boxes merge as their aligned ranges.
-unfoldable pub merged : BBox3d → BBox3d → Inverted → Inverted → BBox3d
+unfoldable pub merged : BBox3d → BBox3d → Inverse → Inverse → BBox3d
 unfolding extended smaller
-merged a b Singular Singular = aligned a b
-merged a b Singular (Matrix n) = extended b a n
-merged a b (Matrix m) Singular = extended a b m
-merged a b (Matrix m) (Matrix n) = smaller (extended a b m) (extended b a n)
+merged a b i j =
+    cond (i .exists)
+    (cond (j .exists) (smaller (extended a b (i .matrix)) (extended b a (j .matrix))) (extended a b (i .matrix)))
+    (cond (j .exists) (extended b a (j .matrix)) (aligned a b))
 
 -- an empty box yields the other
 unfoldable pub held : BBox3d → BBox3d → BBox3d

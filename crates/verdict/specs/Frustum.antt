@@ -1,9 +1,11 @@
--- The verdicts of a view, in the operation order of frustum.rs. A view is a list of planes that face into it: six of them in gf,
--- any number here. Definitions only.
-use Prim.Native.Nat.{ℕ, zero, suc}
+-- The verdicts of a view, in the operation order of frustum.rs. A view is a list of planes that face into it, six of them in gf and any
+-- number here; and for triangles a list of rays, its lines of sight. Definitions only.
+use Prim.Native.Nat.{ℕ}
 use mathlib.Core.Bool.{Bool, true, false, not, cond, _&&_, _||_, Bool·beq}
 use mathlib.Core.List.{List, [], _∷_}
+use lib.ListN.{take}
 use lib.Ieee.{Float, lt, neg}
+use Rattle.number.specs.Every.{every, everyBelow, someBelow}
 use Rattle.number.specs.Arithmetic.{_⊘_, minOf, maxOf}
 use Rattle.matrix.specs.Constants.{positiveZero, one}
 use Rattle.matrix.specs.Vec.{axis4, dot, difference}
@@ -13,8 +15,6 @@ use Rattle.matrix.specs.Range.{isEmpty, corner}
 use Rattle.matrix.specs.declared.vec.Vec3d.{Vec3d}
 use Rattle.matrix.specs.declared.vec.Vec4d.{Vec4d}
 use Rattle.matrix.specs.declared.matrix.Mat4d.{Mat4d}
-use Rattle.matrix.specs.declared.inverse.Inverted.{Inverted}
-use Rattle.matrix.specs.declared.inverse.Inverted.the-variants.{Matrix, Singular}
 use Rattle.verdict.specs.declared.plane.Plane.{Plane}
 use Rattle.verdict.specs.declared.bbox.BBox3d.{BBox3d}
 use Rattle.verdict.specs.declared.ray.Ray.{Ray}
@@ -22,20 +22,14 @@ use Rattle.verdict.specs.declared.ray.TriangleHit.{TriangleHit}
 use Rattle.verdict.specs.declared.ray.TriangleHit.the-variants.{Hit, Refused}
 use Rattle.verdict.specs.Plane.{distanceTo, onPositiveSide, reachesPositiveSide, underInverseTranspose}
 use Rattle.verdict.specs.Ray.{triangleHit}
-use Rattle.verdict.specs.Volume.{planesFrom, originalPlanes, nearAndFar, rayCount, raysFrom}
-use Rattle.verdict.specs.Projection.{everyBelow}
-use Rattle.verdict.specs.BBox.{intoBox}
-
--- every plane of the view passes the test
-unfoldable pub every : (Plane → Bool) → List Plane → Bool
-every test [] = true
-every test (p ∷ ps) = test p && every test ps
+use Rattle.verdict.specs.View.{rayCount, originalPlanes, nearAndFar}
+use Rattle.verdict.specs.BBox.{isDegenerate}
 
 -- ---- a point: every plane has it on its positive side
 
-unfoldable pub pointOf : List Plane → Vec3d → Bool
+unfoldable pub pointInView : List Plane → Vec3d → Bool
 unfolding every
-pointOf ps x = every (λ p. onPositiveSide p x) ps
+pointInView ps x = every (λ p. onPositiveSide p x) ps
 
 -- ---- a segment, from its end a to its end b
 
@@ -67,25 +61,21 @@ spanLeft (p ∷ ps) a b start end =
     (Bool·beq inA inB || not (lt end' start')) && spanLeft ps a b start' end'
 
 -- Not both ends are behind one plane; and then an end is inside every plane, or the planes leave some of the span from 0 to 1.
-unfoldable pub segmentOf : List Plane → Vec3d → Vec3d → Bool
-unfolding every pointOf spanLeft
-segmentOf ps a b = every (hasEnd a b) ps && (pointOf ps a || pointOf ps b || spanLeft ps a b positiveZero one)
+unfoldable pub segmentInView : List Plane → Vec3d → Vec3d → Bool
+unfolding every pointInView spanLeft
+segmentInView ps a b = every (hasEnd a b) ps && (pointInView ps a || pointInView ps b || spanLeft ps a b positiveZero one)
 
 -- ---- a box: every plane, brought into the box's own space, is reached by its range
 
 -- The box's matrix is the inverse of the one into its space, and its transpose carries a plane there.
 -- "The plane tests take a degenerate box as if its matrix were the identity."
-abbrev pub intoSpace : Mat4d → Inverted → Mat4d
-intoSpace m Singular = identity
-intoSpace m (Matrix n) = transpose m
-
 abbrev pub intoSpaceOf : BBox3d → Mat4d
-intoSpaceOf b = intoSpace (b .matrix) (intoBox b)
+intoSpaceOf b = cond (isDegenerate b) identity (transpose (b .matrix))
 
 -- An empty box is not in view.
-unfoldable pub boxOf : List Plane → BBox3d → Bool
+unfoldable pub boxInView : List Plane → BBox3d → Bool
 unfolding every
-boxOf ps b = not (isEmpty (b .range)) && every (λ p. reachesPositiveSide (underInverseTranspose (intoSpaceOf b) p) (b .range)) ps
+boxInView ps b = not (isEmpty (b .range)) && every (λ p. reachesPositiveSide (underInverseTranspose (intoSpaceOf b) p) (b .range)) ps
 
 -- ---- a triangle of three points
 
@@ -106,27 +96,22 @@ unfoldable pub someHit : List Ray → Vec3d → Vec3d → Vec3d → Bool
 someHit [] a b c = false
 someHit (r ∷ rs) a b c = isHit (triangleHit r a b c) || someHit rs a b c
 
--- how many of the lines of sight along the view's corners are tried: one settles it for a triangle between the near and the far plane
-abbrev pub sightLines : List Float → Vec3d → Vec3d → Vec3d → ℕ
-sightLines s a b c = cond (every (hasCorners a b c) (nearAndFar s)) 1 rayCount
+-- the lines of sight that are tried: one settles it for a triangle between the near and the far plane
+abbrev pub sightLines : List Plane → List Ray → Vec3d → Vec3d → Vec3d → List Ray
+sightLines ps rs a b c = take (cond (every (hasCorners a b c) (nearAndFar ps)) 1 rayCount) rs
 
 -- Not all are behind one plane; and then a corner is inside, or some of a side is, or the triangle surrounds the view, so that a line of sight meets it.
--- "The triangle verdict uses the original six and its corner rays": of a record of n planes, those in front and the rays behind the last.
-unfoldable pub triangleOf : List Float → ℕ → Vec3d → Vec3d → Vec3d → Bool
-unfolding every pointOf segmentOf someHit planesFrom raysFrom
-triangleOf s n a b c =
-    let ps = originalPlanes s in
+-- "The triangle verdict uses the original six and its corner rays": of all planes those in front.
+unfoldable pub triangleInView : List Plane → List Ray → Vec3d → Vec3d → Vec3d → Bool
+unfolding every pointInView segmentInView someHit
+triangleInView all rs a b c =
+    let ps = originalPlanes all in
     every (hasCorner a b c) ps
-    && (pointOf ps a || pointOf ps b || pointOf ps c
-    || segmentOf ps a b || segmentOf ps b c || segmentOf ps c a
-    || someHit (raysFrom s n 0 (sightLines s a b c)) a b c)
+    && (pointInView ps a || pointInView ps b || pointInView ps c
+    || segmentInView ps a b || segmentInView ps b c || segmentInView ps c a
+    || someHit (sightLines ps rs a b c) a b c)
 
 -- ---- a box in clip space
-
--- some test below n holds
-unfoldable pub someBelow : ℕ → (ℕ → Bool) → Bool
-someBelow zero t = false
-someBelow (suc n) t = someBelow n t || t n
 
 -- corner k of the box's range, through its matrix and a view's projection
 abbrev pub clipCorner : BBox3d → Mat4d → ℕ → Vec4d
@@ -135,9 +120,9 @@ clipCorner b m k =
     homogeneous (product (b .matrix) m) (record { x = c .x; y = c .y; z = c .z; w = one })
 
 -- Along each axis some corner is inside each of two bounds, w and its negation: "`intersects_view_volume` uses strict comparisons".
-unfoldable pub viewVolumeOf : BBox3d → Mat4d → Bool
+unfoldable pub boxInViewVolume : BBox3d → Mat4d → Bool
 unfolding someBelow everyBelow
-viewVolumeOf b m =
+boxInViewVolume b m =
     everyBelow 3 (λ i.
     someBelow 8 (λ k. lt (axis4 (clipCorner b m k) i) (clipCorner b m k .w))
     && someBelow 8 (λ k. lt (neg (clipCorner b m k .w)) (axis4 (clipCorner b m k) i)))

@@ -1,28 +1,54 @@
--- What each verdict over lent slices answers, in the numbers of the papers: those of a volume first (`planesHeld`), "then document 01's later checks", which
--- is 3 where a box occurs. "Point, segment and box verdicts use all planes." They write nothing. Definitions only.
-use mathlib.Core.Bool.{Bool, _&&_}
-use mathlib.Core.List.{List}
+-- What each verdict over lent slices answers, in the numbers of the papers. They write nothing. Definitions only.
+use mathlib.Core.Bool.{Bool, true, _&&_}
+use mathlib.Core.List.{List, [], _∷_}
+use Prim.Native.Nat.{ℕ}
 use lib.Ieee.{Float}
 use Rattle.number.specs.Answer.{Outcome, refused, result, unless, has}
 use Rattle.matrix.specs.Vec.{vec3Of}
 use Rattle.matrix.specs.Matrix.{matrixOf}
-use Rattle.verdict.specs.BBox.{boxOf as loadedBox}
+use Rattle.verdict.specs.declared.plane.Plane.{Plane}
+use Rattle.verdict.specs.declared.ray.Ray.{Ray}
+use Rattle.verdict.specs.BBox.{boxOf}
 use Rattle.verdict.specs.BBoxCalls.{flagged}
-use Rattle.verdict.specs.Volume.{counting, planesHeld, planesOf}
-use Rattle.verdict.specs.Frustum.{pointOf, segmentOf, triangleOf, boxOf, viewVolumeOf}
+use Rattle.verdict.specs.View.{andThen, planesHeld, planesOf, raysOf}
+use Rattle.verdict.specs.Frustum.{pointInView, segmentInView, triangleInView, boxInView, boxInViewVolume}
+
+-- ---- the order of the checks
+
+-- every input, given with the length of its record, has that length
+unfoldable pub haveLengths : List (ℕ × List Float) → Bool
+haveLengths [] = true
+haveLengths ((n, s) ∷ inputs) = has n s && haveLengths inputs
+
+-- Of the five verdicts: lengths, what is held, "then 3 where a box occurs", and then the verdict by what is held.
+unfoldable pub verdictAfter : {A : Type 0} → Bool → Outcome A → Bool → (A → Bool) → Outcome Bool
+verdictAfter lengths held flag verdict = unless lengths (refused 1) (andThen held (λ x. unless flag (refused 3) (result (verdict x))))
+
+-- Of those by a volume: "1 for a volume below 49 numbers or any other input of the wrong length", the volume's later checks, "then document 01's later
+-- checks", and then the verdict by its planes and rays.
+unfoldable pub verdictBy : List Float → List (ℕ × List Float) → Bool → (List Plane → List Ray → Bool) → Outcome Bool
+unfolding haveLengths verdictAfter
+verdictBy v others flag verdict = verdictAfter (haveLengths others) (planesHeld v) flag (λ n. verdict (planesOf v n) (raysOf v n))
+
+-- ---- the verdicts: "Point, segment and box verdicts use all planes."
 
 unfoldable pub intersectsPointCall : List Float → List Float → Outcome Bool
-intersectsPointCall v p = counting (planesHeld v (has 3 p)) (λ n. result (pointOf (planesOf v n) (vec3Of p)))
+unfolding verdictBy
+intersectsPointCall v p = verdictBy v ((3, p) ∷ []) true (λ ps rs. pointInView ps (vec3Of p))
 
 unfoldable pub intersectsSegmentCall : List Float → List Float → List Float → Outcome Bool
-intersectsSegmentCall v p0 p1 = counting (planesHeld v (has 3 p0 && has 3 p1)) (λ n. result (segmentOf (planesOf v n) (vec3Of p0) (vec3Of p1)))
+unfolding verdictBy
+intersectsSegmentCall v p0 p1 = verdictBy v ((3, p0) ∷ (3, p1) ∷ []) true (λ ps rs. segmentInView ps (vec3Of p0) (vec3Of p1))
 
 unfoldable pub intersectsTriangleCall : List Float → List Float → List Float → List Float → Outcome Bool
+unfolding verdictBy
 intersectsTriangleCall v p0 p1 p2 =
-    counting (planesHeld v (has 3 p0 && has 3 p1 && has 3 p2)) (λ n. result (triangleOf v n (vec3Of p0) (vec3Of p1) (vec3Of p2)))
+    verdictBy v ((3, p0) ∷ (3, p1) ∷ (3, p2) ∷ []) true (λ ps rs. triangleInView ps rs (vec3Of p0) (vec3Of p1) (vec3Of p2))
 
 unfoldable pub intersectsBoxCall : List Float → List Float → Outcome Bool
-intersectsBoxCall v b = counting (planesHeld v (has 23 b)) (λ n. unless (flagged b) (refused 3) (result (boxOf (planesOf v n) (loadedBox b))))
+unfolding verdictBy
+intersectsBoxCall v b = verdictBy v ((23, b) ∷ []) (flagged b) (λ ps rs. boxInView ps (boxOf b))
 
 unfoldable pub viewVolumeCall : List Float → List Float → Outcome Bool
-viewVolumeCall b m = unless (has 23 b && has 16 m) (refused 1) (unless (flagged b) (refused 3) (result (viewVolumeOf (loadedBox b) (matrixOf m))))
+unfolding haveLengths verdictAfter
+viewVolumeCall b m = verdictAfter (haveLengths ((23, b) ∷ (16, m) ∷ [])) (result (boxOf b)) (flagged b) (λ x. boxInViewVolume x (matrixOf m))

@@ -1,9 +1,11 @@
--- Planes that divide space in two, as Gf's documentation has them. Definitions only.
-use mathlib.Core.Bool.{Bool, not, _&&_, cond}
+-- Planes that divide space in two, as Gf's documentation has them: a normal, which the verdicts do not need to be of unit length, and a distance along it, floats of any kind. Definitions
+-- and a statement only.
+use mathlib.Core.Path.{_≡_}
+use mathlib.Core.Bool.{Bool, true, not, _&&_, cond}
 use mathlib.Core.List.{List, [], _∷_, _++_}
 use lib.Ieee.{Float, le, eq, neg}
 use Rattle.number.specs.Answer.{Outcome, refused, result}
-use Rattle.number.specs.Arithmetic.{_⊖_, _⊘_}
+use Rattle.number.specs.Arithmetic.{_⊕_, _⊖_, _⊗_, _⊘_, zeroOf}
 use Rattle.number.specs.Slice.{at}
 use Rattle.matrix.specs.Constants.{positiveZero}
 use Rattle.matrix.specs.Vec.{coordinates, axis, axis4, vec3, vec3Of, difference, dot, cross, lengthOf, normalized}
@@ -71,9 +73,17 @@ endToward n low high = cond (le positiveZero n) high low
 abbrev pub furthest : Vec3d → Range3d → Vec3d
 furthest n r = vec3 (λ i. endToward (axis n i) (axis (r .min) i) (axis (r .max) i))
 
+-- How far a range reaches along a normal: the three products added up as the Rust's `sum` does, from -0, the zero that leaves every number as it is.
+abbrev pub reachAlong : Vec3d → Range3d → Float
+reachAlong n r = let c = furthest n r in zeroOf true ⊕ n .x ⊗ c .x ⊕ n .y ⊗ c .y ⊕ n .z ⊗ c .z
+
 -- any of the range is on the plane or in its positive half-space; an empty one has nothing there
 unfoldable pub reachesPositiveSide : Plane → Range3d → Bool
-reachesPositiveSide p r = not (isEmpty r) && le (p .distance) (dot (p .normal) (furthest (p .normal) r))
+reachesPositiveSide p r = not (isEmpty r) && le (p .distance) (reachAlong (p .normal) r)
+
+-- Earlier releases of Rust start a sum from +0. The comparison is the same from either zero, and from the first product as the code has it.
+abbrev pub ReachFromEitherZero : Type 0
+ReachFromEitherZero = (s : Bool) (d : Float) (n c : Vec3d) → le d (zeroOf s ⊕ n .x ⊗ c .x ⊕ n .y ⊗ c .y ⊕ n .z ⊗ c .z) ≡ le d (dot n c)
 
 -- ---- a plane through a matrix
 

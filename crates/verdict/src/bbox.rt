@@ -2,17 +2,18 @@
 ghost use mathlib.Core.Path.{_≡_};
 ghost use mathlib.Core.Bool.{_||_};
 ghost use lib.ListN.{length};
-ghost use Rattle.matrix.specs.Range.{isEmpty};
 ghost use Rattle.number.specs.Slice.{stored};
-ghost use Rattle.verdict.specs.BBox.{flagOf, isFlag, numbers, boxOf, intoBox, isDegenerate, alignedRange, centroid, volume, placed, extended, tolerance, preferred, smaller, aligned, merged, held, combined};
+ghost use Rattle.verdict.specs.BBox.{flagOf, isFlag, numbers, boxOf, intoBox, isDegenerate, alignedRange, centroid, volume, transformedBox, extended, preferred, smaller, aligned, merged, held, combined};
 use crate::record::vec3_at;
 use crate::record::vec4_at;
 use matrix::inverse::Inverted;
 use matrix::matrix::Mat4d;
 use matrix::range::Range3d;
 use matrix::vec::Vec3d;
+use matrix::vec::Vec4d;
 use number::order;
 use number::slice;
+use number::slice::at;
 
 // The range, the matrix from its space to the world's, and whether it bounds something with no area.
 pub struct BBox3d {
@@ -21,8 +22,14 @@ pub struct BBox3d {
     pub flag: bool,
 }
 
+// The inverse of a box's matrix, with a flag that says whether there is one. Without one the matrix is the identity.
+pub struct Inverse {
+    pub matrix: Mat4d,
+    pub exists: bool,
+}
+
 // The determinant at or under which a matrix is taken to have no inverse.
-pub const PRECISION_LIMIT: f64 = 1e-13;
+const PRECISION_LIMIT: f64 = 1e-13;
 
 // Whether a number is one of a flag's: a zero of either sign, or 1.
 pub fn is_flag(x: f64) -> bool
@@ -66,10 +73,19 @@ pub fn either(a: bool, b: bool) -> bool
 
 impl BBox3d {
     // The inverse of its matrix, if it has one.
-    pub fn inverse(self) -> Inverted
+    pub fn inverse(self) -> Inverse
         ensures { λ r. ⌜ r ≡ intoBox self ⌝ }
     {
-        self.matrix.inverse_above(PRECISION_LIMIT)
+        let Inverted::Matrix(matrix) = self.matrix.inverse_above(PRECISION_LIMIT) else {
+            return Inverse {
+                matrix: Mat4d::IDENTITY,
+                exists: false,
+            };
+        };
+        Inverse {
+            matrix,
+            exists: true,
+        }
     }
 
     // Whether it has none.
@@ -95,7 +111,7 @@ impl BBox3d {
 
     // Under a matrix applied after its own.
     pub fn transform(self, m: Mat4d) -> BBox3d
-        ensures { λ r. ⌜ r ≡ placed self m ⌝ }
+        ensures { λ r. ⌜ r ≡ transformedBox self m ⌝ }
     {
         let range = self.range;
         BBox3d {
@@ -156,17 +172,17 @@ impl BBox3d {
     {
         let into_self = self.inverse();
         let into_other = other.inverse();
-        let Inverted::Matrix(m) = into_self else {
-            let Inverted::Matrix(n) = into_other else {
-                return self.aligned_with(other);
-            };
-            return other.extended_by(self, n);
-        };
-        let Inverted::Matrix(n) = into_other else {
-            return self.extended_by(other, m);
-        };
-        self.extended_by(other, m)
-            .smaller(other.extended_by(self, n))
+        if into_self.exists {
+            let first = self.extended_by(other, into_self.matrix);
+            if into_other.exists {
+                return first.smaller(other.extended_by(self, into_other.matrix));
+            }
+            return first;
+        }
+        if into_other.exists {
+            return other.extended_by(self, into_other.matrix);
+        }
+        self.aligned_with(other)
     }
 
     fn held(self, other: BBox3d) -> BBox3d
@@ -212,6 +228,25 @@ impl BBox3d {
                 r3: vec4_at(s, 18),
             },
             flag: s[22] == 1.0,
+        }
+    }
+
+    // The numbers of a record, for other crates: its length is tested once, and past the end of a shorter slice there are NaNs.
+    pub fn from_record(s: &[f64]) -> BBox3d
+        ensures { λ r. ⌜ r ≡ boxOf (now (s .entry)) ⌝ }
+    {
+        if s.len() == 23 {
+            return BBox3d::load(s);
+        }
+        BBox3d {
+            range: Range3d::load(s),
+            matrix: Mat4d {
+                r0: Vec4d::load_at(s, 6),
+                r1: Vec4d::load_at(s, 10),
+                r2: Vec4d::load_at(s, 14),
+                r3: Vec4d::load_at(s, 18),
+            },
+            flag: at(s, 22) == 1.0,
         }
     }
 

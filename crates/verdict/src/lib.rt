@@ -1,15 +1,15 @@
-// Planes, rays, projections, boxes and views.
+// Planes, rays, boxes and views.
 pub mod bbox;
 pub mod bbox_calls;
+pub mod clip;
 pub mod frustum;
 pub mod frustum_calls;
+mod interval;
 pub mod plane;
 pub mod plane_calls;
-pub mod projection;
-pub mod projection_calls;
 pub mod ray;
 pub mod ray_calls;
+mod reach;
 mod record;
 pub mod triangle;
-pub mod view_volume;
-pub mod volume;
+pub mod view;

@@ -11,15 +11,19 @@ use number::answer::Refusal;
 use number::answer::Scalar;
 use number::answer::Verdict;
 use number::answer::Written;
+use number::limits::HOMOGENEOUS_LENGTH;
+use number::limits::MATRIX_LENGTH;
+use number::limits::PLANE_LENGTH;
+use number::limits::POINT_LENGTH;
 
 // The plane that faces along a normal, at a distance from the origin.
 pub fn new(normal: &[f64], distance: f64, out: &mut [f64]) -> Written
     ensures { λ r. ⌜ reply r (now (out .exit)) ≡ newPlaneCall (now (normal .entry)) distance (now (out .entry)) ⌝ }
 {
-    if normal.len() != 3 {
+    if normal.len() != POINT_LENGTH {
         return Written::Refused(Refusal::InputLength);
     }
-    if out.len() != 4 {
+    if out.len() != PLANE_LENGTH {
         return Written::Refused(Refusal::OutputLength);
     }
     Plane::new(Vec3d::load(normal), distance).store(out);
@@ -30,16 +34,16 @@ pub fn new(normal: &[f64], distance: f64, out: &mut [f64]) -> Written
 pub fn from_points(p0: &[f64], p1: &[f64], p2: &[f64], out: &mut [f64]) -> Written
     ensures { λ r. ⌜ reply r (now (out .exit)) ≡ fromPointsCall (now (p0 .entry)) (now (p1 .entry)) (now (p2 .entry)) (now (out .entry)) ⌝ }
 {
-    if p0.len() != 3 {
+    if p0.len() != POINT_LENGTH {
         return Written::Refused(Refusal::InputLength);
     }
-    if p1.len() != 3 {
+    if p1.len() != POINT_LENGTH {
         return Written::Refused(Refusal::InputLength);
     }
-    if p2.len() != 3 {
+    if p2.len() != POINT_LENGTH {
         return Written::Refused(Refusal::InputLength);
     }
-    if out.len() != 4 {
+    if out.len() != PLANE_LENGTH {
         return Written::Refused(Refusal::OutputLength);
     }
     Plane::from_points(Vec3d::load(p0), Vec3d::load(p1), Vec3d::load(p2)).store(out);
@@ -50,10 +54,10 @@ pub fn from_points(p0: &[f64], p1: &[f64], p2: &[f64], out: &mut [f64]) -> Writt
 pub fn from_equation(equation: &[f64], out: &mut [f64]) -> Written
     ensures { λ r. ⌜ reply r (now (out .exit)) ≡ fromEquationCall (now (equation .entry)) (now (out .entry)) ⌝ }
 {
-    if equation.len() != 4 {
+    if equation.len() != HOMOGENEOUS_LENGTH {
         return Written::Refused(Refusal::InputLength);
     }
-    if out.len() != 4 {
+    if out.len() != PLANE_LENGTH {
         return Written::Refused(Refusal::OutputLength);
     }
     Plane::from_equation(Vec4d::load(equation)).store(out);
@@ -64,10 +68,10 @@ pub fn from_equation(equation: &[f64], out: &mut [f64]) -> Written
 pub fn distance(plane: &[f64], p: &[f64]) -> Scalar
     ensures { λ r. ⌜ scalarOf r ≡ distanceCall (now (plane .entry)) (now (p .entry)) ⌝ }
 {
-    if plane.len() != 4 {
+    if plane.len() != PLANE_LENGTH {
         return Scalar::Refused(Refusal::InputLength);
     }
-    if p.len() != 3 {
+    if p.len() != POINT_LENGTH {
         return Scalar::Refused(Refusal::InputLength);
     }
     Scalar::Value(Plane::load(plane).distance(Vec3d::load(p)))
@@ -77,29 +81,26 @@ pub fn distance(plane: &[f64], p: &[f64]) -> Scalar
 pub fn on_positive_side(plane: &[f64], p: &[f64]) -> Verdict
     ensures { λ r. ⌜ verdictOf r ≡ sideCall (now (plane .entry)) (now (p .entry)) ⌝ }
 {
-    if plane.len() != 4 {
+    if plane.len() != PLANE_LENGTH {
         return Verdict::Refused(Refusal::InputLength);
     }
-    if p.len() != 3 {
+    if p.len() != POINT_LENGTH {
         return Verdict::Refused(Refusal::InputLength);
     }
-    if Plane::load(plane).on_positive_side(Vec3d::load(p)) {
-        return Verdict::Yes;
-    }
-    Verdict::No
+    Verdict::of(Plane::load(plane).on_positive_side(Vec3d::load(p)))
 }
 
 // A plane under a matrix. It is refused as singular where the matrix has no inverse.
 pub fn transformed(plane: &[f64], m: &[f64], out: &mut [f64]) -> Written
     ensures { λ r. ⌜ reply r (now (out .exit)) ≡ transformedPlaneCall (now (plane .entry)) (now (m .entry)) (now (out .entry)) ⌝ }
 {
-    if plane.len() != 4 {
+    if plane.len() != PLANE_LENGTH {
         return Written::Refused(Refusal::InputLength);
     }
-    if m.len() != 16 {
+    if m.len() != MATRIX_LENGTH {
         return Written::Refused(Refusal::InputLength);
     }
-    if out.len() != 4 {
+    if out.len() != PLANE_LENGTH {
         return Written::Refused(Refusal::OutputLength);
     }
     let Transformed::To(moved) = Plane::load(plane).transformed(Mat4d::load(m)) else {

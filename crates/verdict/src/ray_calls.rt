@@ -11,16 +11,22 @@ use matrix::matrix::Mat4d;
 use matrix::vec::Vec3d;
 use number::answer::Refusal;
 use number::answer::Written;
+use number::limits::HIT_LENGTH;
+use number::limits::MATRIX_LENGTH;
+use number::limits::PLANE_HIT_LENGTH;
+use number::limits::PLANE_LENGTH;
+use number::limits::POINT_LENGTH;
+use number::limits::RAY_LENGTH;
 use number::slice;
 
 // The point at a distance along a ray.
 pub fn point(ray: &[f64], distance: f64, out: &mut [f64]) -> Written
     ensures { λ r. ⌜ reply r (now (out .exit)) ≡ pointCall (now (ray .entry)) distance (now (out .entry)) ⌝ }
 {
-    if ray.len() != 6 {
+    if ray.len() != RAY_LENGTH {
         return Written::Refused(Refusal::InputLength);
     }
-    if out.len() != 3 {
+    if out.len() != POINT_LENGTH {
         return Written::Refused(Refusal::OutputLength);
     }
     Ray::load(ray).point(distance).store(out);
@@ -31,13 +37,13 @@ pub fn point(ray: &[f64], distance: f64, out: &mut [f64]) -> Written
 pub fn transformed(ray: &[f64], m: &[f64], out: &mut [f64]) -> Written
     ensures { λ r. ⌜ reply r (now (out .exit)) ≡ transformedRayCall (now (ray .entry)) (now (m .entry)) (now (out .entry)) ⌝ }
 {
-    if ray.len() != 6 {
+    if ray.len() != RAY_LENGTH {
         return Written::Refused(Refusal::InputLength);
     }
-    if m.len() != 16 {
+    if m.len() != MATRIX_LENGTH {
         return Written::Refused(Refusal::InputLength);
     }
-    if out.len() != 6 {
+    if out.len() != RAY_LENGTH {
         return Written::Refused(Refusal::OutputLength);
     }
     Ray::load(ray).transformed(Mat4d::load(m)).store(out);
@@ -48,13 +54,13 @@ pub fn transformed(ray: &[f64], m: &[f64], out: &mut [f64]) -> Written
 pub fn intersect_plane(ray: &[f64], plane: &[f64], out: &mut [f64]) -> Written
     ensures { λ r. ⌜ reply r (now (out .exit)) ≡ planeHitCall (now (ray .entry)) (now (plane .entry)) (now (out .entry)) ⌝ }
 {
-    if ray.len() != 6 {
+    if ray.len() != RAY_LENGTH {
         return Written::Refused(Refusal::InputLength);
     }
-    if plane.len() != 4 {
+    if plane.len() != PLANE_LENGTH {
         return Written::Refused(Refusal::InputLength);
     }
-    if out.len() != 2 {
+    if out.len() != PLANE_HIT_LENGTH {
         return Written::Refused(Refusal::OutputLength);
     }
     let PlaneHit::At { distance, front } = Ray::load(ray).intersect_plane(Plane::load(plane)) else {
@@ -76,19 +82,19 @@ pub fn intersect_triangle(
 ) -> Written
     ensures { λ r. ⌜ reply r (now (out .exit)) ≡ triangleHitCall (now (ray .entry)) (now (p0 .entry)) (now (p1 .entry)) (now (p2 .entry)) (now (out .entry)) ⌝ }
 {
-    if ray.len() != 6 {
+    if ray.len() != RAY_LENGTH {
         return Written::Refused(Refusal::InputLength);
     }
-    if p0.len() != 3 {
+    if p0.len() != POINT_LENGTH {
         return Written::Refused(Refusal::InputLength);
     }
-    if p1.len() != 3 {
+    if p1.len() != POINT_LENGTH {
         return Written::Refused(Refusal::InputLength);
     }
-    if p2.len() != 3 {
+    if p2.len() != POINT_LENGTH {
         return Written::Refused(Refusal::InputLength);
     }
-    if out.len() != 5 {
+    if out.len() != HIT_LENGTH {
         return Written::Refused(Refusal::OutputLength);
     }
     match Ray::load(ray).intersect_triangle(Vec3d::load(p0), Vec3d::load(p1), Vec3d::load(p2)) {

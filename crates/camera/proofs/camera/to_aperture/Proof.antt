@@ -4,7 +4,7 @@ use borrow.Author.Needs.{needs}
 use lib.Ieee.{Float, binary64, ofBits}
 use Rattle.number.specs.Arithmetic.{_⊗_, _⊘_}
 use Rattle.matrix.proofs.Literals.{one-bits}
-use Rattle.verdict.specs.declared.projection.Projection.{Projection}
+use Rattle.projection.specs.declared.projection.Projection.{Projection}
 use Rattle.camera.specs.Camera.{unit, toAperture}
 use Rattle.camera.proofs.Literals.{unit-bits}
 use Rattle.camera.proofs.camera.to_aperture.Statement.{statement}

@@ -7,7 +7,8 @@ use borrow.Author.Needs.{needs}
 use borrow.Author.Tests.{le-leb, lt-leb}
 use lib.Dec.{leb}
 use lib.ListN.{length}
-use Rattle.farm.specs.Directory.{fewestSections, mostSections, sectionCount, sectionsFrom, directoryEnd, inOrder, wellFormed}
+use Rattle.number.specs.Limits.{fewestSections, mostSections}
+use Rattle.farm.specs.Directory.{sectionCount, sectionsFrom, directoryEnd, inOrder, wellFormed}
 use Rattle.farm.proofs.directory.is_well_formed.Statement.{statement}
 use Rattle.farm.proofs.directory.is_well_formed.Tie as tie
 

@@ -7,9 +7,10 @@ use native.Mathlib.Omega.{arith}
 use borrow.Author.Needs.{needs}
 use borrow.Author.Tests.{le-leb, lt-leb, eq-eqb, ne-eqb, not-true, not-false}
 use lib.ListN.{length, length-map}
+use Rattle.number.specs.Limits.{largestFile}
 use Rattle.number.specs.Answer.{refused, result}
-use Rattle.verdict.specs.Volume.{isCount}
-use Rattle.farm.specs.Directory.{largestFile, sectionCount, boxSections, wellFormed}
+use Rattle.verdict.specs.View.{isCount}
+use Rattle.farm.specs.Directory.{sectionCount, boxSections, wellFormed}
 use Rattle.farm.specs.FarmFile.{volumeThere, countNumber, planeCount, sized, allFlagged, inView, checked, slotCount, slots, Listing, listing, listed, farmFileCall}
 use Rattle.farm.proofs.SectionsLeft.{as-many}
 use Rattle.farm.specs.Steps.{saidBy}

@@ -7,13 +7,15 @@ use native.Mathlib.Omega.{arith}
 use borrow.Author.Needs.{needs}
 use borrow.Author.Tests.{not-true, not-false}
 use lib.Ieee.{Float}
+use Rattle.number.specs.Limits.{boxLength, flagPlace}
+use Rattle.number.specs.Every.{every}
 use Rattle.number.specs.Bytes.{numberAt, numbersAt}
 use Rattle.number.proofs.Words.{number-at}
 use Rattle.verdict.specs.BBox.{isFlag}
 use Rattle.verdict.specs.BBoxCalls.{flagged}
 use Rattle.farm.specs.declared.directory.Section.{Section}
 use Rattle.farm.specs.Directory.{sectionCount, sectionAt, boxSections, numbersOf}
-use Rattle.farm.specs.FarmFile.{every, sized, allFlagged}
+use Rattle.farm.specs.FarmFile.{sized, allFlagged}
 use Rattle.farm.proofs.SectionsLeft.{left, fails, holds, all-hold}
 use Rattle.farm.proofs.Placed.{at-least, at-most, box-sized}
 use Rattle.farm.proofs.sections.are_flagged.Statement.{statement}
@@ -29,9 +31,9 @@ abbrev μ-loop : tie.MeasureT-loop
 μ-loop file count i₀ i = count - i
 
 -- the flag is the last of a box's numbers
-flag-of : (b : List ℕ) (s : Section) (z : Bool) (x : Float) → s .size ≡ 8 * 23 → x ≡ numberAt b (s .offset + 176) → z ≡ isFlag x → test b s ≡ z
+flag-of : (b : List ℕ) (s : Section) (z : Bool) (x : Float) → s .size ≡ 8 * boxLength → x ≡ numberAt b (s .offset + 176) → z ≡ isFlag x → test b s ≡ z
 flag-of b s z x h e f =
-    ap (λ (n : ℕ). flagged (numbersAt b (s .offset) (n / 8))) h ∙ ap isFlag (number-at b (s .offset) 23 22 (omega arith)) ∙ sym (ap isFlag e) ∙ sym f
+    ap (λ (n : ℕ). flagged (numbersAt b (s .offset) (n / 8))) h ∙ ap isFlag (number-at b (s .offset) boxLength flagPlace (omega arith)) ∙ sym (ap isFlag e) ∙ sym f
 
 all-left : (b : List ℕ) {n : ℕ} → n ≡ sectionCount b → every (test b) (left b n 1) ≡ allFlagged b
 unfolding allFlagged

@@ -7,17 +7,19 @@ use native.Mathlib.Omega.{arith}
 use borrow.Author.Needs.{needs}
 use borrow.Author.Tests.{eq-eqb, ne-eqb}
 use lib.Dec.{eqb}
-use Rattle.verdict.specs.Volume.{volumeLength}
+use Rattle.number.specs.Limits.{boxLength}
+use Rattle.number.specs.Every.{every}
+use Rattle.verdict.specs.View.{volumeLength}
 use Rattle.farm.specs.declared.directory.Section.{Section}
 use Rattle.farm.specs.Directory.{sectionCount, volumeSection, boxSections}
-use Rattle.farm.specs.FarmFile.{every, planeCount, sized}
+use Rattle.farm.specs.FarmFile.{planeCount, sized}
 use Rattle.farm.proofs.SectionsLeft.{left, fails, holds, all-hold}
 use Rattle.farm.proofs.Placed.{at-least, at-most}
 use Rattle.farm.proofs.sections.are_sized.Statement.{statement}
 use Rattle.farm.proofs.sections.are_sized.Tie as tie
 
 abbrev test : Section → Bool
-test s = eqb (s .size) (8 * 23)
+test s = eqb (s .size) (8 * boxLength)
 
 abbrev Inv-loop : tie.InvT-loop
 Inv-loop file planes count size i₀ i = (0 < i) × (i ≤ count) × (every test (left file count i) ≡ every test (boxSections file))

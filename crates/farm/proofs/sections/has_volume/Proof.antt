@@ -5,7 +5,8 @@ use Prim.Native.Nat.{ℕ, _*_}
 use native.Mathlib.Omega.{arith}
 use borrow.Author.Needs.{needs}
 use lib.Dec.{leb}
-use Rattle.verdict.specs.Volume.{fewestPlanes, volumeLength}
+use Rattle.number.specs.Limits.{fewestPlanes}
+use Rattle.verdict.specs.View.{volumeLength}
 use Rattle.farm.specs.declared.directory.Section.{Section}
 use Rattle.farm.specs.Directory.{volumeSection}
 use Rattle.farm.specs.FarmFile.{volumeThere}

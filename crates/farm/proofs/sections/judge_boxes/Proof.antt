@@ -6,7 +6,7 @@ use native.Mathlib.Omega.{arith}
 use borrow.Author.Needs.{needs}
 use lib.ListN.{length, length-set}
 use Rattle.farm.specs.Directory.{sectionCount, sectionsFrom, boxSections}
-use Rattle.farm.specs.FarmFile.{inView, slotCount, noBox, slots}
+use Rattle.farm.specs.FarmFile.{inView, slotCount, slots}
 use Rattle.farm.proofs.Placed.{at-least, at-most}
 use Rattle.farm.proofs.Slots.{judged, none-judged, next-judged, inside, slot-is}
 use Rattle.farm.proofs.sections.judge_boxes.Statement.{statement}

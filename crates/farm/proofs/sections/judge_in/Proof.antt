@@ -7,8 +7,9 @@ use borrow.Author.Needs.{needs}
 use lib.ListN.{length, length-append, length-drop, take, drop}
 use lib.Seq.{length-take-le, take-at}
 use lib.Ieee.{Float}
+use Rattle.number.specs.Limits.{mostPlanes}
 use Rattle.number.specs.Bytes.{loaded}
-use Rattle.verdict.specs.Volume.{mostPlanes, volumeLength}
+use Rattle.verdict.specs.View.{volumeLength}
 use Rattle.farm.specs.declared.directory.Section.{Section}
 use Rattle.farm.specs.Directory.{volumeSection, numbersOf}
 use Rattle.farm.specs.FarmFile.{planeCount}

@@ -3,6 +3,7 @@ use mathlib.Core.Path.{ap, _∙_}
 use borrow.Author.Needs.{needs}
 use lib.ListN.{replicate}
 use lib.Ieee.{binary64, ofBits}
+use Rattle.number.specs.Limits.{boxLength}
 use Rattle.number.proofs.Words.{all-there}
 use Rattle.verdict.specs.FrustumCalls.{intersectsBoxCall}
 use Rattle.farm.specs.FarmFile.{slotFor}
@@ -18,7 +19,7 @@ returns c =
     c .slot .ensures
     ∙ ap slotFor
     (asked .intersects-bbox .ensures
-    ∙ ap (intersectsBoxCall (given .volume .now)) (filled .load .ensures ∙ all-there (given .file .now) (given .start) (replicate 23 (ofBits binary64 0)) (start .pre)))
+    ∙ ap (intersectsBoxCall (given .volume .now)) (filled .load .ensures ∙ all-there (given .file .now) (given .start) (replicate boxLength (ofBits binary64 0)) (start .pre)))
 
 pub judged-spec : {M : Type 1} → statement M
 judged-spec = tie.close (tie.spec (λ c. search needs) (λ c κs. tt) (λ c. search needs) (λ c κs. tt) (λ c κs. tt) returns)

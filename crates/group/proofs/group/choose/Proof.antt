@@ -1,5 +1,5 @@
 -- `group::choose` meets its contract by its tests of emptiness, by which of the two matrices have an inverse, and by the volumes. Assumes nothing.
-use Rattle.group.proofs.Kept.{first-empty, second-empty, neither, into-second, into-first, first-chosen, second-chosen}
+use Rattle.group.proofs.Spaces.{first-empty, second-empty, neither, into-second, into-first, first-chosen, second-chosen}
 use Rattle.group.proofs.group.choose.Statement.{statement}
 use Rattle.group.proofs.group.choose.Tie as tie
 

@@ -3,40 +3,34 @@ use mathlib.Core.Path.{_≡_, refl, ap, _∙_}
 use Prim.Native.Nat.{_-_, _≤_}
 use native.Mathlib.Omega.{arith}
 use borrow.Author.Needs.{needs}
-use lib.ListN.{length, take, drop}
+use Rattle.number.specs.Limits.{boxLength}
+use lib.ListN.{take, drop}
 use Rattle.matrix.proofs.Literals.{zero-bits, one-bits}
 use Rattle.verdict.specs.BBox.{boxOf, intoBox}
 use Rattle.verdict.specs.declared.bbox.BBox3d.{BBox3d}
-use Rattle.group.specs.Group.{boxLength, records, combinedWith}
-use Rattle.group.specs.Kept.{opened}
-use Rattle.group.proofs.Kept.{made}
-use Rattle.group.proofs.Records.{recordsLeft, record-length, one-more, no-more}
+use Rattle.group.specs.Group.{records, combinedWith}
+use Rattle.group.proofs.Spaces.{made}
+use Rattle.group.proofs.Records.{recordsLeft, one-more, no-more}
 use Rattle.group.proofs.group.combine.Statement.{statement}
 use Rattle.group.proofs.group.combine.Tie as tie
 
 abbrev Inv-loop : tie.InvT-loop
 Inv-loop boxes count group₀ inverse₀ i₀ group inverse i =
-    (1 ≤ i) × (i ≤ count) × (inverse ≡ opened (intoBox group))
+    (1 ≤ i) × (i ≤ count) × (inverse ≡ intoBox group)
     × (combinedWith group (recordsLeft count boxes i) ≡ combinedWith (boxOf (take boxLength boxes)) (records (count - 1) (drop boxLength boxes)))
 
 abbrev μ-loop : tie.MeasureT-loop
 μ-loop boxes count group₀ inverse₀ i₀ group inverse i = count - i
 
-load-requires : tie.Need-load-requires Inv-loop μ-loop
-load-requires c κs = ap length (c .«record» .ensures) ∙ record-length (c .before .before .args .boxes .now) 0 (omega arith)
-
 loop-holds : tie.Need-loop-holds Inv-loop μ-loop
 loop-holds c =
     let l = c .before in
     let a = l .before .before .before .args in
-    let e = l .load .ensures ∙ ap boxOf (l .before .«record» .ensures) in
-    (omega arith, omega arith, c .inverse-of .ensures, ap (λ (b : BBox3d). combinedWith b (recordsLeft (a .count) (a .boxes .now) 1)) e)
-
-load-requires-2 : tie.Need-load-requires-2 Inv-loop μ-loop
-load-requires-2 c κs = let l = c .before .before .loop in ap length (c .record2 .ensures) ∙ record-length _ (l .i) (omega arith)
+    let e = l .from-record .ensures ∙ ap boxOf (l .before .«record» .ensures) in
+    (omega arith, omega arith, c .inverse .ensures, ap (λ (b : BBox3d). combinedWith b (recordsLeft (a .count) (a .boxes .now) 1)) e)
 
 choose-requires : tie.Need-choose-requires Inv-loop μ-loop
-choose-requires c κs = (c .before .before .before .before .loop .inv .2, c .inverse-of2 .ensures)
+choose-requires c κs = (c .before .before .before .before .loop .inv .2, c .inverse2 .ensures)
 
 add-i : tie.Need-add-i Inv-loop μ-loop
 add-i c =
@@ -50,7 +44,7 @@ loop-again c =
     let b = k .before .before in
     let t = b .before in
     let l = t .before .before .loop in
-    let e = b .load2 .ensures ∙ ap boxOf (t .record2 .ensures) in (
+    let e = b .from-record2 .ensures ∙ ap boxOf (t .record2 .ensures) in (
       omega arith,
       omega arith,
       l .inv .2,
@@ -66,10 +60,10 @@ loop-again-2 c =
     let b = n .before in
     let t = b .before in
     let l = t .before .before .loop in
-    let e = b .load2 .ensures ∙ ap boxOf (t .record2 .ensures) in (
+    let e = b .from-record2 .ensures ∙ ap boxOf (t .record2 .ensures) in (
       omega arith,
       omega arith,
-      n .inverse-of2 .ensures,
+      n .inverse2 .ensures,
       one-more _ _ (l .i) (omega arith) _ _ (made _ _ _ _ _ _ _ (k .choose .ensures) e (s .enum-told2 .given .1) refl (f .either .ensures)) ∙ l .inv .3,
     )
 
@@ -81,10 +75,10 @@ loop-again-3 c =
     let b = k .before .before in
     let t = b .before in
     let l = t .before .before .loop in
-    let e = b .load2 .ensures ∙ ap boxOf (t .record2 .ensures) in (
+    let e = b .from-record2 .ensures ∙ ap boxOf (t .record2 .ensures) in (
       omega arith,
       omega arith,
-      c .inverse-of3 .ensures,
+      c .inverse3 .ensures,
       one-more _ _ (l .i) (omega arith) _ _
           (made _ _ _ _ _ _ _ (k .choose .ensures) e (s .enum-told3 .given .1) (rw (zero-bits, one-bits)) (f .either .ensures))
           ∙ l .inv .3,
@@ -96,6 +90,6 @@ returns c = let l = c .before .loop in no-more _ _ (l .i) (omega arith) _ ∙ l 
 pub combine-spec : {M : Type 1} → statement M
 combine-spec =
     tie.close
-    (tie.spec Inv-loop μ-loop (λ c κs. omega arith) load-requires (λ c κs. tt) loop-holds (λ c κs. omega arith) load-requires-2 (λ c κs. tt) choose-requires (λ c κs. tt) add-i
+    (tie.spec Inv-loop μ-loop (λ c κs. omega arith) (λ c κs. tt) (λ c κs. tt) loop-holds (λ c κs. omega arith) (λ c κs. tt) (λ c κs. tt) choose-requires (λ c κs. tt) add-i
     (λ c. search needs) (λ c. omega arith) loop-again (λ c. search needs) (λ c. omega arith) loop-again-2 (λ c. search needs) (λ c κs. tt) (λ c. omega arith) loop-again-3
     returns)

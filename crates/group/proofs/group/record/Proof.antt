@@ -6,7 +6,7 @@ use native.Mathlib.Omega.{arith}
 use borrow.Author.Needs.{needs}
 use lib.ListN.{take, drop}
 use lib.Ieee.{Float}
-use Rattle.group.specs.Group.{boxLength}
+use Rattle.number.specs.Limits.{boxLength}
 use Rattle.group.proofs.group.record.Statement.{statement}
 use Rattle.group.proofs.group.record.Tie as tie
 

@@ -4,6 +4,7 @@ use native.Mathlib.Nat.{div-add-mod'}
 use native.Mathlib.Omega.{arith}
 use borrow.Author.Needs.{needs}
 use lib.ListN.{length}
+use Rattle.number.specs.Limits.{boxLength}
 use Rattle.verdict.specs.BBox.{numbers}
 use Rattle.group.proofs.Ways.{single, several, empty, long, uneven, no-room, no-flag, written}
 use Rattle.group.proofs.group_calls.combine_group.Statement.{statement}
@@ -45,7 +46,7 @@ returns-6 c =
     let size = whole .before in
     let s = size .before .before .before .before .args .boxes .now in
     written _ _ (size .before .if1 .left) (size .if2 .left) (whole .if3 .left) (room .if4 .left) _ (flags .all-flagged .ensures) (passed .if5 .left) _ _
-    (omega (arith, one .if6 .taken, whole .if3 .left, div-add-mod' (length s) 23)) (stored .store .ensures) (single s (one .if6 .taken) (whole .if3 .left))
+    (omega (arith, one .if6 .taken, whole .if3 .left, div-add-mod' (length s) boxLength)) (stored .store .ensures) (single s (one .if6 .taken) (whole .if3 .left))
 
 returns-7 : tie.Need-returns-7
 returns-7 c =

@@ -1,6 +1,6 @@
 -- `number::grid::grid` meets its contract: each way out is a law over plain lists. Assumes nothing.
 use mathlib.Core.Path.{_≡_, refl, sym, ap, _∙_}
-use mathlib.Core.List.{List, [], _∷_, map}
+use mathlib.Core.List.{List, [], _∷_}
 use Prim.Native.Nat.{ℕ}
 use native.Mathlib.Omega.{arith}
 use borrow.Author.Needs.{needs}
@@ -10,8 +10,8 @@ use lib.Ieee.{Float, binary64, ofInt}
 use mir.Syntax.{w32}
 use mir.Val.{SFits, toZ, ofZ}
 use mir.ValLaws.{toZ-ofZ}
-use Rattle.number.specs.Answer.{Reply, refuse, write, unless, has, leaving}
-use Rattle.number.specs.Grid.{centimetres, placed, coordinates, every, wholeOf, gridCall}
+use Rattle.number.specs.Answer.{Reply, refuse, write, replied, unless, has, leaving}
+use Rattle.number.specs.Grid.{centimetres, placed, coordinates, gridNumbers, gridCall}
 use Rattle.number.specs.Slice.{at, stored}
 use Rattle.number.specs.declared.grid.Coordinate.{Coordinate}
 use Rattle.number.specs.declared.grid.Coordinate.the-variants.{On, Off}
@@ -21,8 +21,8 @@ use Rattle.number.proofs.grid.grid.Statement.{statement}
 use Rattle.number.proofs.grid.grid.Tie as tie
 
 -- what the three coordinates decide
-abbrev decided : List Coordinate → List Float → Reply
-decided cs out = unless (every cs) (refuse 7 out) (write (map wholeOf cs))
+abbrev decided : List Coordinate → List Float → Reply Float
+decided cs out = replied (gridNumbers cs) out
 
 call-is : (p out : List Float) → gridCall p out ≡ unless (has 3 p) (refuse 1 out) (unless (has 3 out) (refuse 2 out) (decided (coordinates p) out))
 unfolding gridCall leaving
@@ -62,18 +62,22 @@ module _ (p out : List Float) (e : length p ≡ 3) (f : length out ≡ 3) where
       same = λ i. k i ∷ l i ∷ m i ∷ []
 
   first-off : whole-at p 0 ≡ Off → refuse 7 out ≡ gridCall p out
+  unfolding gridNumbers
   first-off k = all Off (whole-at p 1) (whole-at p 2) k refl refl
 
   second-off : (x : ℤ) → whole-at p 0 ≡ On x → whole-at p 1 ≡ Off → refuse 7 out ≡ gridCall p out
+  unfolding gridNumbers
   second-off x k l = all (On x) Off (whole-at p 2) k l refl
 
   third-off : (x y : ℤ) → whole-at p 0 ≡ On x → whole-at p 1 ≡ On y → whole-at p 2 ≡ Off → refuse 7 out ≡ gridCall p out
+  unfolding gridNumbers
   third-off x y k l m = all (On x) (On y) Off k l m
 
 -- the three numbers, stored
 written : (x y z : ℤ) (last out : List Float) → length out ≡ 3 → SFits w32 x → SFits w32 y → SFits w32 z
     → last ≡ stored (ofInt binary64 (toZ w32 (ofZ w32 x)) ∷ ofInt binary64 (toZ w32 (ofZ w32 y)) ∷ ofInt binary64 (toZ w32 (ofZ w32 z)) ∷ []) out
     → write last ≡ decided (On x ∷ On y ∷ On z ∷ []) out
+unfolding gridNumbers
 written x y z last out f a b c e = ap write (e ∙ same-room _ out (sym f) ∙ λ i. ofInt binary64 (toZ-ofZ w32 x a i) ∷ ofInt binary64 (toZ-ofZ w32 y b i) ∷ ofInt binary64 (toZ-ofZ w32 z c i) ∷ [])
 
 returns : tie.Need-returns

@@ -16,8 +16,9 @@ use lib.Ieee.Nearest.{closest}
 use mir.Syntax.{w32}
 use mir.Val.{SFits, toZ, sel}
 use mir.ValLaws.{toZ-ofZ}
+use Rattle.number.specs.Limits.{gridLimit}
 use Rattle.number.specs.Steps.Magnitude.{unitsOf}
-use Rattle.number.specs.Grid.{wholeNearest, gridLimit, placed}
+use Rattle.number.specs.Grid.{wholeNearest, placed}
 use Rattle.number.specs.declared.grid.Coordinate.the-variants.{On, Off}
 use Rattle.number.proofs.Centimetres.{whole-ge, whole-zero, coordinate, placed-value, placed-nan, placed-inf, off, on, zero-on, units-ge, units-lt, scale-ge, scale-lt, same-fraction}
 use Rattle.number.proofs.Nan.{is-nan, not-nan, number}

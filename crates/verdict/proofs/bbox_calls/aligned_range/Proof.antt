@@ -6,6 +6,7 @@ use borrow.Author.Needs.{needs}
 use lib.Ieee.{Float}
 use lib.ListN.{length}
 use borrow.Author.Needs.{needs}
+use Rattle.number.specs.Limits.{boxLength}
 use Rattle.number.specs.Answer.{refuse, write, unless, has, leaving}
 use Rattle.number.proofs.Calls.{no-input, no-room, left, written}
 use Rattle.number.proofs.Refusals.{stops, passes}
@@ -16,21 +17,21 @@ use Rattle.verdict.proofs.Flags.{no-flag, is-flag}
 use Rattle.verdict.proofs.bbox_calls.aligned_range.Statement.{statement}
 use Rattle.verdict.proofs.bbox_calls.aligned_range.Tie as tie
 
-is : (a out : List Float) → alignedRangeCall a out ≡ leaving (has 23 a) 6 (unless (flagged a) (refuse 3 out) (write (bounds (alignedRange (boxOf a))))) out
+is : (a out : List Float) → alignedRangeCall a out ≡ leaving (has boxLength a) 6 (unless (flagged a) (refuse 3 out) (write (bounds (alignedRange (boxOf a))))) out
 unfolding alignedRangeCall
 is a out = refl
 
-no-flag-left : (a out : List Float) → length a ≡ 23 → length out ≡ 6 → flagged a ≡ false → refuse 3 out ≡ alignedRangeCall a out
-no-flag-left a out h l e = stops (flagged a) (refuse 3 out) _ e ∙ left 23 6 _ _ is a out h l
+no-flag-left : (a out : List Float) → length a ≡ boxLength → length out ≡ 6 → flagged a ≡ false → refuse 3 out ≡ alignedRangeCall a out
+no-flag-left a out h l e = stops (flagged a) (refuse 3 out) _ e ∙ left boxLength 6 _ _ is a out h l
 
 flag-passed : (a out : List Float) → flagged a ≡ true → write (bounds (alignedRange (boxOf a))) ≡ unless (flagged a) (refuse 3 out) (write (bounds (alignedRange (boxOf a))))
 flag-passed a out e = passes (flagged a) (refuse 3 out) _ _ e refl
 
 returns : tie.Need-returns
-returns c = no-input 23 6 _ _ is _ _ (c .if1 .taken)
+returns c = no-input boxLength 6 _ _ is _ _ (c .if1 .taken)
 
 returns-2 : tie.Need-returns-2
-returns-2 c = no-room 23 6 _ _ is _ _ (c .before .if1 .left) (c .if2 .taken)
+returns-2 c = no-room boxLength 6 _ _ is _ _ (c .before .if1 .left) (c .if2 .taken)
 
 returns-3 : tie.Need-returns-3
 returns-3 c =
@@ -51,7 +52,7 @@ returns-4 c =
     let f = e .before in
     let tests = f .before .before in
     let a = tests .before .before .before .before .args in
-    written 23 6 _ _ is (a .b .now) (a .out .now) _ _ _ (tests .before .if1 .left) (tests .if2 .left) (s .store .ensures) refl
+    written boxLength 6 _ _ is (a .b .now) (a .out .now) _ _ _ (tests .before .if1 .left) (tests .if2 .left) (s .store .ensures) refl
     (ap bounds (r .aligned-range .ensures ∙ ap alignedRange (l .load .ensures)))
     (flag-passed (a .b .now) (a .out .now) (is-flag (a .b .now) _ _ (f .before .at .ensures) (f .is-flag .ensures) (e .if3 .left)))
 

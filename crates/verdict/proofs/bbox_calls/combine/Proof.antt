@@ -6,6 +6,7 @@ use borrow.Author.Needs.{needs}
 use lib.Ieee.{Float}
 use lib.ListN.{length}
 use borrow.Author.Needs.{needs}
+use Rattle.number.specs.Limits.{boxLength}
 use Rattle.number.specs.Answer.{refuse, write, unless, has, leaving}
 use Rattle.number.proofs.Calls.{no-first, no-second, no-room-for, left-from, written-from}
 use Rattle.number.proofs.Refusals.{stops, passes}
@@ -16,12 +17,12 @@ use Rattle.verdict.proofs.bbox_calls.combine.Statement.{statement}
 use Rattle.verdict.proofs.bbox_calls.combine.Tie as tie
 
 is : (a b out : List Float) → combineCall a b out
-    ≡ leaving (has 23 a && has 23 b) 23 (unless (flagged a && flagged b) (refuse 3 out) (write (numbers (combined (boxOf a) (boxOf b))))) out
+    ≡ leaving (has boxLength a && has boxLength b) boxLength (unless (flagged a && flagged b) (refuse 3 out) (write (numbers (combined (boxOf a) (boxOf b))))) out
 unfolding combineCall
 is a b out = refl
 
-no-flag-left : (a b out : List Float) → length a ≡ 23 → length b ≡ 23 → length out ≡ 23 → (flagged a && flagged b) ≡ false → refuse 3 out ≡ combineCall a b out
-no-flag-left a b out h i l e = stops (flagged a && flagged b) (refuse 3 out) _ e ∙ left-from 23 23 23 _ _ is a b out h i l
+no-flag-left : (a b out : List Float) → length a ≡ boxLength → length b ≡ boxLength → length out ≡ boxLength → (flagged a && flagged b) ≡ false → refuse 3 out ≡ combineCall a b out
+no-flag-left a b out h i l e = stops (flagged a && flagged b) (refuse 3 out) _ e ∙ left-from boxLength boxLength boxLength _ _ is a b out h i l
 
 flag-passed : (a b out : List Float) → (flagged a && flagged b) ≡ true → write (numbers (combined (boxOf a) (boxOf b))) ≡ unless (flagged a && flagged b) (refuse 3 out) (write (numbers (combined (boxOf a) (boxOf b))))
 flag-passed a b out e = passes (flagged a && flagged b) (refuse 3 out) _ _ e refl
@@ -36,13 +37,13 @@ both-good : (x y : Bool) → x ≡ true → y ≡ true → (x && y) ≡ true
 both-good x y e f = ap (λ (z : Bool). z && y) e ∙ f
 
 returns : tie.Need-returns
-returns c = no-first 23 23 23 _ _ is _ _ _ (c .if1 .taken)
+returns c = no-first boxLength boxLength boxLength _ _ is _ _ _ (c .if1 .taken)
 
 returns-2 : tie.Need-returns-2
-returns-2 c = no-second 23 23 23 _ _ is _ _ _ (c .before .if1 .left) (c .if2 .taken)
+returns-2 c = no-second boxLength boxLength boxLength _ _ is _ _ _ (c .before .if1 .left) (c .if2 .taken)
 
 returns-3 : tie.Need-returns-3
-returns-3 c = no-room-for 23 23 23 _ _ is _ _ _ (c .before .before .if1 .left) (c .before .if2 .left) (c .if3 .taken)
+returns-3 c = no-room-for boxLength boxLength boxLength _ _ is _ _ _ (c .before .before .if1 .left) (c .before .if2 .left) (c .if3 .taken)
 
 returns-4 : tie.Need-returns-4
 returns-4 c =
@@ -78,7 +79,7 @@ returns-6 c =
     let f = e .before in
     let tests = f .before .before in
     let a = tests .before .before .before .before .before .before .args in
-    written-from 23 23 23 _ _ is (a .a .now) (a .b .now) (a .out .now) _ _ _ (tests .before .before .if1 .left) (tests .before .if2 .left) (tests .if3 .left) (s .store .ensures) refl
+    written-from boxLength boxLength boxLength _ _ is (a .a .now) (a .b .now) (a .out .now) _ _ _ (tests .before .before .if1 .left) (tests .before .if2 .left) (tests .if3 .left) (s .store .ensures) refl
     (ap numbers (r .combine .ensures ∙ ap₂ combined (l .load .ensures) (m .load2 .ensures)))
     (flag-passed (a .a .now) (a .b .now) (a .out .now)
     (both-good _ _ (is-flag (a .a .now) _ _ (f .before .at .ensures) (f .is-flag .ensures) (e .if4 .left))

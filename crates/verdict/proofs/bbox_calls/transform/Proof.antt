@@ -6,35 +6,36 @@ use borrow.Author.Needs.{needs}
 use lib.Ieee.{Float}
 use lib.ListN.{length}
 use borrow.Author.Needs.{needs}
+use Rattle.number.specs.Limits.{boxLength}
 use Rattle.number.specs.Answer.{refuse, write, unless, has, leaving}
 use Rattle.number.proofs.Calls.{no-first, no-second, no-room-for, left-from, written-from}
 use Rattle.number.proofs.Refusals.{stops, passes}
 use Rattle.matrix.specs.Matrix.{matrixOf}
-use Rattle.verdict.specs.BBox.{boxOf, numbers, placed}
-use Rattle.verdict.specs.BBoxCalls.{flagged, transformCall}
+use Rattle.verdict.specs.BBox.{boxOf, numbers, transformedBox}
+use Rattle.verdict.specs.BBoxCalls.{flagged, transformBoxCall}
 use Rattle.verdict.proofs.Flags.{no-flag, is-flag}
 use Rattle.verdict.proofs.bbox_calls.transform.Statement.{statement}
 use Rattle.verdict.proofs.bbox_calls.transform.Tie as tie
 
-is : (a b out : List Float) → transformCall a b out
-    ≡ leaving (has 23 a && has 16 b) 23 (unless (flagged a) (refuse 3 out) (write (numbers (placed (boxOf a) (matrixOf b))))) out
-unfolding transformCall
+is : (a b out : List Float) → transformBoxCall a b out
+    ≡ leaving (has boxLength a && has 16 b) boxLength (unless (flagged a) (refuse 3 out) (write (numbers (transformedBox (boxOf a) (matrixOf b))))) out
+unfolding transformBoxCall
 is a b out = refl
 
-no-flag-left : (a b out : List Float) → length a ≡ 23 → length b ≡ 16 → length out ≡ 23 → (flagged a) ≡ false → refuse 3 out ≡ transformCall a b out
-no-flag-left a b out h i l e = stops (flagged a) (refuse 3 out) _ e ∙ left-from 23 16 23 _ _ is a b out h i l
+no-flag-left : (a b out : List Float) → length a ≡ boxLength → length b ≡ 16 → length out ≡ boxLength → (flagged a) ≡ false → refuse 3 out ≡ transformBoxCall a b out
+no-flag-left a b out h i l e = stops (flagged a) (refuse 3 out) _ e ∙ left-from boxLength 16 boxLength _ _ is a b out h i l
 
-flag-passed : (a b out : List Float) → (flagged a) ≡ true → write (numbers (placed (boxOf a) (matrixOf b))) ≡ unless (flagged a) (refuse 3 out) (write (numbers (placed (boxOf a) (matrixOf b))))
+flag-passed : (a b out : List Float) → (flagged a) ≡ true → write (numbers (transformedBox (boxOf a) (matrixOf b))) ≡ unless (flagged a) (refuse 3 out) (write (numbers (transformedBox (boxOf a) (matrixOf b))))
 flag-passed a b out e = passes (flagged a) (refuse 3 out) _ _ e refl
 
 returns : tie.Need-returns
-returns c = no-first 23 16 23 _ _ is _ _ _ (c .if1 .taken)
+returns c = no-first boxLength 16 boxLength _ _ is _ _ _ (c .if1 .taken)
 
 returns-2 : tie.Need-returns-2
-returns-2 c = no-second 23 16 23 _ _ is _ _ _ (c .before .if1 .left) (c .if2 .taken)
+returns-2 c = no-second boxLength 16 boxLength _ _ is _ _ _ (c .before .if1 .left) (c .if2 .taken)
 
 returns-3 : tie.Need-returns-3
-returns-3 c = no-room-for 23 16 23 _ _ is _ _ _ (c .before .before .if1 .left) (c .before .if2 .left) (c .if3 .taken)
+returns-3 c = no-room-for boxLength 16 boxLength _ _ is _ _ _ (c .before .before .if1 .left) (c .before .if2 .left) (c .if3 .taken)
 
 returns-4 : tie.Need-returns-4
 returns-4 c =
@@ -57,8 +58,8 @@ returns-5 c =
     let f = e .before in
     let tests = f .before .before in
     let a = tests .before .before .before .before .before .before .args in
-    written-from 23 16 23 _ _ is (a .b .now) (a .m .now) (a .out .now) _ _ _ (tests .before .before .if1 .left) (tests .before .if2 .left) (tests .if3 .left) (s .store .ensures) refl
-    (ap numbers (r .transform .ensures ∙ ap₂ placed (l .load .ensures) (m .load2 .ensures)))
+    written-from boxLength 16 boxLength _ _ is (a .b .now) (a .m .now) (a .out .now) _ _ _ (tests .before .before .if1 .left) (tests .before .if2 .left) (tests .if3 .left) (s .store .ensures) refl
+    (ap numbers (r .transform .ensures ∙ ap₂ transformedBox (l .load .ensures) (m .load2 .ensures)))
     (flag-passed (a .b .now) (a .m .now) (a .out .now) (is-flag (a .b .now) _ _ (f .before .at .ensures) (f .is-flag .ensures) (e .if4 .left)))
 
 pub transform-spec : {M : Type 1} → statement M

@@ -4,6 +4,7 @@ use mathlib.Core.List.{List}
 use lib.Ieee.{Float}
 use lib.ListN.{length}
 use borrow.Author.Needs.{needs}
+use Rattle.number.specs.Limits.{boxLength}
 use Rattle.number.specs.Answer.{Outcome, refused, result, unless, has}
 use Rattle.number.proofs.Refusals.{has-yes, has-no, stops, passes}
 use Rattle.verdict.specs.BBox.{boxOf, volume}
@@ -12,16 +13,16 @@ use Rattle.verdict.proofs.Flags.{no-flag, is-flag}
 use Rattle.verdict.proofs.bbox_calls.volume.Statement.{statement}
 use Rattle.verdict.proofs.bbox_calls.volume.Tie as tie
 
-is : (b : List Float) → unless (has 23 b) (refused 1) (unless (flagged b) (refused 3) (result (volume (boxOf b)))) ≡ volumeCall b
+is : (b : List Float) → unless (has boxLength b) (refused 1) (unless (flagged b) (refused 3) (result (volume (boxOf b)))) ≡ volumeCall b
 unfolding volumeCall
 is b = refl
 
 module _ (b : List Float) where
-  short : (length b ≡ 23 → ⊥) → refused 1 ≡ volumeCall b
-  short n = stops (has 23 b) (refused 1) _ (has-no 23 b n) ∙ is b
+  short : (length b ≡ boxLength → ⊥) → refused 1 ≡ volumeCall b
+  short n = stops (has boxLength b) (refused 1) _ (has-no boxLength b n) ∙ is b
 
-  left : (x : Outcome Float) → length b ≡ 23 → x ≡ unless (flagged b) (refused 3) (result (volume (boxOf b))) → x ≡ volumeCall b
-  left x h e = passes (has 23 b) (refused 1) _ x (has-yes 23 b h) e ∙ is b
+  left : (x : Outcome Float) → length b ≡ boxLength → x ≡ unless (flagged b) (refused 3) (result (volume (boxOf b))) → x ≡ volumeCall b
+  left x h e = passes (has boxLength b) (refused 1) _ x (has-yes boxLength b h) e ∙ is b
 
 returns : tie.Need-returns
 returns c = short _ (c .if1 .taken)

@@ -1,20 +1,22 @@
 -- `frustum::intersects_bbox` meets its contract: an empty range by its test, any other as the planes left decide. Assumes nothing.
-use mathlib.Core.Path.{_≡_, sym, ap, _∙_}
+use mathlib.Core.Path.{_≡_, refl, sym, ap, _∙_}
 use mathlib.Core.Bool.{Bool, true, false, not, _&&_}
 use mathlib.Core.List.{List}
-use Prim.Native.Nat.{ℕ, _-_, _≤_}
+use Prim.Native.Nat.{_-_, _≤_}
 use native.Mathlib.Omega.{arith}
 use borrow.Author.Needs.{needs}
-use lib.Ieee.{Float}
+use lib.ListN.{drop}
+use Rattle.number.specs.Every.{every}
 use Rattle.matrix.specs.declared.matrix.Mat4d.{Mat4d}
 use Rattle.matrix.specs.declared.range.Range3d.{Range3d}
 use Rattle.matrix.specs.Range.{isEmpty}
 use Rattle.verdict.specs.declared.plane.Plane.{Plane}
 use Rattle.verdict.specs.declared.bbox.BBox3d.{BBox3d}
 use Rattle.verdict.specs.Plane.{reachesPositiveSide, underInverseTranspose}
-use Rattle.verdict.specs.Volume.{planesOf}
-use Rattle.verdict.specs.Frustum.{every, boxOf, intoSpaceOf}
-use Rattle.verdict.proofs.PlanesLeft.{planesLeft, all, fails, holds, all-hold}
+use Rattle.verdict.specs.View.{planesOf}
+use Rattle.verdict.specs.Frustum.{boxInView, intoSpaceOf}
+use Rattle.verdict.proofs.ViewLists.{next-plane, no-plane}
+use Rattle.verdict.proofs.PlanesLeft.{fails, holds, all-hold}
 use Rattle.verdict.proofs.frustum.intersects_bbox.Statement.{statement}
 use Rattle.verdict.proofs.frustum.intersects_bbox.Tie as tie
 
@@ -22,31 +24,25 @@ abbrev test : Mat4d → Range3d → Plane → Bool
 test m r p = reachesPositiveSide (underInverseTranspose m p) r
 
 module _ (ps : List Plane) (b : BBox3d) (z : Bool) (q : z ≡ isEmpty (b .range)) where
-  no-range : z ≡ true → false ≡ boxOf ps b
-  unfolding boxOf
+  no-range : z ≡ true → false ≡ boxInView ps b
+  unfolding boxInView
   no-range e = sym (ap (λ (t : Bool). not t && every (test (intoSpaceOf b) (b .range)) ps) (sym q ∙ e))
 
-  a-range : (m : Mat4d) → z ≡ false → m ≡ intoSpaceOf b → every (test m (b .range)) ps ≡ boxOf ps b
-  unfolding boxOf
+  a-range : (m : Mat4d) → z ≡ false → m ≡ intoSpaceOf b → every (test m (b .range)) ps ≡ boxInView ps b
+  unfolding boxInView
   a-range m e h = ap (λ (n : Mat4d). every (test n (b .range)) ps) h ∙ sym (ap (λ (t : Bool). not t && every (test (intoSpaceOf b) (b .range)) ps) (sym q ∙ e))
 
-left-all : (s : List Float) (n : ℕ) (m : Mat4d) (r : Range3d) → every (test m r) (planesLeft s n 0) ≡ every (test m r) (planesOf s n)
-left-all s n m r = ap (λ (ps : List Plane). every (test m r) ps) (all s n)
-
-reached : (m : Mat4d) (r : Range3d) (z : Bool) (p q : Plane) → z ≡ test m r p → p ≡ q → z ≡ test m r q
-reached m r z p q e g = e ∙ ap (test m r) g
-
 abbrev Inv-loop : tie.InvT-loop
-Inv-loop volume count range into about-origin i₀ i = (i ≤ count) × (every (test into range) (planesLeft volume count i) ≡ every (test into range) (planesOf volume count))
+Inv-loop view count range into about-origin i₀ i = (i ≤ count) × (every (test into range) (drop i (planesOf view count)) ≡ every (test into range) (planesOf view count))
 
 abbrev μ-loop : tie.MeasureT-loop
-μ-loop volume count range into about-origin i₀ i = count - i
+μ-loop view count range into about-origin i₀ i = count - i
 
 returns : tie.Need-returns Inv-loop μ-loop
 returns c = no-range _ _ _ (c .before .is-empty .ensures) (c .if1 .taken)
 
 loop-holds : tie.Need-loop-holds Inv-loop μ-loop
-loop-holds c = (omega arith, left-all _ _ _ _)
+loop-holds c = (omega arith, refl)
 
 about : tie.Need-reaches-under-requires Inv-loop μ-loop
 about c κs = c .before .before .before .holds-origin .ensures
@@ -59,7 +55,8 @@ returns-2 c =
     let l = at-loop .loop in
     let into = at-loop .before .before in
     let some = into .before in
-    fails (test _ _) _ _ (l .i) _ (omega arith) (reached _ _ _ _ _ (to .reaches-under .ensures) (at .plane-at .ensures)) (c .if2 .taken)
+    let g = some .before .before .before .before .args in
+    fails (test _ _) _ _ _ (next-plane (g .view .now) (g .count) (l .i) _ (omega arith) (at .plane-at .ensures)) _ (to .reaches-under .ensures) (c .if2 .taken)
     ∙ l .inv .1 ∙ a-range _ _ _ (some .before .is-empty .ensures) _ (some .if1 .left) (into .into-space .ensures)
 
 add-i : tie.Need-add-i Inv-loop μ-loop
@@ -72,9 +69,11 @@ loop-again : tie.Need-loop-again Inv-loop μ-loop
 loop-again c =
     let to = c .before in
     let at = to .before in
-    let l = at .before .before .loop in (
+    let at-loop = at .before .before in
+    let l = at-loop .loop in
+    let g = at-loop .before .before .before .before .before .before .before .args in (
       omega arith,
-      holds (test _ _) _ _ (l .i) _ (omega arith) (reached _ _ _ _ _ (to .reaches-under .ensures) (at .plane-at .ensures)) (c .if2 .left) ∙ l .inv .1,
+      holds (test _ _) _ _ _ (next-plane (g .view .now) (g .count) (l .i) _ (omega arith) (at .plane-at .ensures)) _ (to .reaches-under .ensures) (c .if2 .left) ∙ l .inv .1,
     )
 
 returns-3 : tie.Need-returns-3 Inv-loop μ-loop
@@ -83,7 +82,8 @@ returns-3 c =
     let l = at-loop .loop in
     let into = at-loop .before .before in
     let some = into .before in
-    all-hold (test _ _) _ _ (l .i) (omega arith) ∙ l .inv .1 ∙ a-range _ _ _ (some .before .is-empty .ensures) _ (some .if1 .left) (into .into-space .ensures)
+    let g = some .before .before .before .before .args in
+    all-hold (test _ _) _ (no-plane (g .view .now) (g .count) (l .i) (omega arith)) ∙ l .inv .1 ∙ a-range _ _ _ (some .before .is-empty .ensures) _ (some .if1 .left) (into .into-space .ensures)
 
 pub intersects-bbox-spec : {M : Type 1} → statement M
 intersects-bbox-spec =

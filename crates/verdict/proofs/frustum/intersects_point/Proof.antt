@@ -1,16 +1,18 @@
 -- `frustum::intersects_point` meets its contract: the planes left decide. Assumes nothing.
-use mathlib.Core.Path.{_≡_, ap, _∙_}
+use mathlib.Core.Path.{_≡_, refl, _∙_}
 use mathlib.Core.Bool.{Bool}
-use mathlib.Core.List.{List}
 use Prim.Native.Nat.{_-_, _≤_}
 use native.Mathlib.Omega.{arith}
 use borrow.Author.Needs.{needs}
+use lib.ListN.{drop}
+use Rattle.number.specs.Every.{every}
 use Rattle.matrix.specs.declared.vec.Vec3d.{Vec3d}
 use Rattle.verdict.specs.declared.plane.Plane.{Plane}
 use Rattle.verdict.specs.Plane.{onPositiveSide}
-use Rattle.verdict.specs.Volume.{planesOf}
-use Rattle.verdict.specs.Frustum.{every, pointOf}
-use Rattle.verdict.proofs.PlanesLeft.{planesLeft, all, fails, holds, all-hold}
+use Rattle.verdict.specs.View.{planesOf}
+use Rattle.verdict.specs.Frustum.{pointInView}
+use Rattle.verdict.proofs.ViewLists.{next-plane, no-plane}
+use Rattle.verdict.proofs.PlanesLeft.{fails, holds, all-hold}
 use Rattle.verdict.proofs.frustum.intersects_point.Statement.{statement}
 use Rattle.verdict.proofs.frustum.intersects_point.Tie as tie
 
@@ -18,21 +20,23 @@ abbrev test : Vec3d → Plane → Bool
 test x p = onPositiveSide p x
 
 abbrev Inv-loop : tie.InvT-loop
-Inv-loop volume count p i₀ i = (i ≤ count) × (every (test p) (planesLeft volume count i) ≡ pointOf (planesOf volume count) p)
+Inv-loop view count p i₀ i = (i ≤ count) × (every (test p) (drop i (planesOf view count)) ≡ pointInView (planesOf view count) p)
 
 abbrev μ-loop : tie.MeasureT-loop
-μ-loop volume count p i₀ i = count - i
+μ-loop view count p i₀ i = count - i
 
 loop-holds : tie.Need-loop-holds Inv-loop μ-loop
-unfolding pointOf
-loop-holds c = let a = c .before .args in (omega arith, ap (λ (ps : List Plane). every (test (a .p)) ps) (all (a .volume .now) (a .count)))
+unfolding pointInView
+loop-holds c = (omega arith, refl)
 
 returns : tie.Need-returns Inv-loop μ-loop
 returns c =
     let on = c .before in
     let at = on .before in
-    let l = at .before .before .loop in
-    fails (test _) _ _ (l .i) _ (omega arith) (on .on-positive-side .ensures ∙ ap (test _) (at .plane-at .ensures)) (c .if1 .taken) ∙ l .inv .1
+    let at-loop = at .before .before in
+    let l = at-loop .loop in
+    let a = at-loop .before .before .args in
+    fails (test (a .p)) _ _ _ (next-plane (a .view .now) (a .count) (l .i) _ (omega arith) (at .plane-at .ensures)) _ (on .on-positive-side .ensures) (c .if1 .taken) ∙ l .inv .1
 
 add-i : tie.Need-add-i Inv-loop μ-loop
 add-i c = search needs
@@ -44,11 +48,18 @@ loop-again : tie.Need-loop-again Inv-loop μ-loop
 loop-again c =
     let on = c .before in
     let at = on .before in
-    let l = at .before .before .loop in
-    (omega arith, holds (test _) _ _ (l .i) _ (omega arith) (on .on-positive-side .ensures ∙ ap (test _) (at .plane-at .ensures)) (c .if1 .left) ∙ l .inv .1)
+    let at-loop = at .before .before in
+    let l = at-loop .loop in
+    let a = at-loop .before .before .args in (
+      omega arith,
+      holds (test (a .p)) _ _ _ (next-plane (a .view .now) (a .count) (l .i) _ (omega arith) (at .plane-at .ensures)) _ (on .on-positive-side .ensures) (c .if1 .left) ∙ l .inv .1,
+    )
 
 returns-2 : tie.Need-returns-2 Inv-loop μ-loop
-returns-2 c = let l = c .before .loop in all-hold (test _) _ _ (l .i) (omega arith) ∙ l .inv .1
+returns-2 c =
+    let l = c .before .loop in
+    let a = c .before .before .before .args in
+    all-hold (test (a .p)) _ (no-plane (a .view .now) (a .count) (l .i) (omega arith)) ∙ l .inv .1
 
 pub intersects-point-spec : {M : Type 1} → statement M
 intersects-point-spec = tie.close (tie.spec Inv-loop μ-loop loop-holds (λ c κs. omega arith) (λ c κs. tt) returns add-i loop-less loop-again returns-2)

@@ -1,10 +1,10 @@
 -- `frustum::intersects_segment` meets its contract: by either way it asks the planes that are counted. Assumes nothing.
-use mathlib.Core.Path.{_≡_, sym, ap, _∙_}
+use mathlib.Core.Path.{sym, ap, _∙_}
 use Prim.Native.Nat.{ℕ}
 use native.Mathlib.Omega.{arith}
 use borrow.Author.Needs.{needs}
-use Rattle.verdict.specs.Volume.{planesOf}
-use Rattle.verdict.specs.Frustum.{segmentOf}
+use Rattle.verdict.specs.View.{planesOf}
+use Rattle.verdict.specs.Frustum.{segmentInView}
 use Rattle.verdict.proofs.frustum.intersects_segment.Statement.{statement}
 use Rattle.verdict.proofs.frustum.intersects_segment.Tie as tie
 
@@ -21,7 +21,7 @@ returns : tie.Need-returns
 returns c =
     let six = c .before .before .before in
     let g = six .before .before .args in
-    c .segment-left .ensures ∙ ap (λ (n : ℕ). segmentOf (planesOf (g .volume .now) n) (g .a) (g .b)) (sym (six .if1 .taken))
+    c .segment-left .ensures ∙ ap (λ (n : ℕ). segmentInView (planesOf (g .view .now) n) (g .a) (g .b)) (sym (six .if1 .taken))
 
 left : tie.Need-segment-left-requires-2
 left c κs = let first = c .before in (first .before .before .before .pre, first .sides-within3 .ensures, c .sides-within4 .ensures)

@@ -1,33 +1,44 @@
--- `frustum_calls::intersects_point` meets its contract: the volume and the lengths by their one test, the result by what it calls. Assumes nothing.
-use mathlib.Core.Path.{sym, ap, _∙_}
+-- `frustum_calls::intersects_point` meets its contract: the length and the volume by their tests, the result by what it calls. Assumes nothing.
+use mathlib.Core.Path.{refl, sym, ap, _∙_}
 use borrow.Author.Needs.{needs}
 use Rattle.number.specs.Answer.{result}
-use Rattle.verdict.specs.Volume.{countedOf}
-use Rattle.verdict.specs.Frustum.{pointOf}
-use Rattle.verdict.specs.FrustumCalls.{intersectsPointCall}
-use Rattle.verdict.proofs.PlanesHeld.{counted, not-counted, held, has-planes}
+use Rattle.number.proofs.Refusals.{has-yes, has-no}
+use Rattle.verdict.specs.View.{heldOf}
+use Rattle.verdict.specs.Frustum.{pointInView}
+use Rattle.verdict.proofs.PlanesHeld.{held, has-planes}
+use Rattle.verdict.proofs.VerdictChecks.{one-input, wrong-length, not-held, answered}
+use Rattle.verdict.proofs.VerdictCalls.{point-call}
 use Rattle.verdict.proofs.frustum_calls.intersects_point.Statement.{statement}
 use Rattle.verdict.proofs.frustum_calls.intersects_point.Tie as tie
+
+returns : tie.Need-returns
+returns c = let a = c .before .before .before .args in wrong-length _ _ _ _ (one-input 3 (a .p .now) ∙ has-no 3 (a .p .now) (c .if1 .taken)) ∙ point-call (a .volume .now) (a .p .now)
 
 intersects-point-requires : tie.Need-intersects-point-requires
 intersects-point-requires c κs =
     let known = c .before .before in
-    has-planes (held _ _ _ (ap countedOf (sym (known .count .given .1)) ∙ known .before .before .planes-held .ensures))
+    has-planes (held _ _ (ap heldOf (sym (known .count .given .1)) ∙ known .before .before .planes-held .ensures))
 
-returns : tie.Need-returns
-unfolding intersectsPointCall
-returns c =
+returns-2 : tie.Need-returns-2
+returns-2 c =
     let asked = c .before in
     let point = asked .before in
     let known = point .before .before in
-    counted _ _ _ _ (ap countedOf (sym (known .count .given .1)) ∙ known .before .before .planes-held .ensures)
-    (c .told .ensures ∙ ap result (asked .intersects-point .ensures ∙ ap (pointOf _) (point .load .ensures)))
+    let counted = known .before .before in
+    let a = counted .before .before .before .before .args in
+    answered _ _ _ _ (one-input 3 (a .p .now) ∙ has-yes 3 (a .p .now) (counted .before .if1 .left)) _ _ (ap heldOf (sym (known .count .given .1)) ∙ counted .planes-held .ensures) refl
+    (c .of .ensures ∙ ap result (asked .intersects-point .ensures ∙ ap (pointInView _) (point .load .ensures)))
+    ∙ point-call (a .volume .now) (a .p .now)
 
-returns-2 : tie.Need-returns-2
-unfolding intersectsPointCall
-returns-2 c = let known = c .before in not-counted _ _ _ (ap countedOf (sym (known .refusal .given .1)) ∙ known .before .before .planes-held .ensures)
+returns-3 : tie.Need-returns-3
+returns-3 c =
+    let known = c .before in
+    let counted = known .before .before in
+    let a = counted .before .before .before .before .args in
+    not-held _ _ _ _ (one-input 3 (a .p .now) ∙ has-yes 3 (a .p .now) (counted .before .if1 .left)) _ (ap heldOf (sym (known .refusal .given .1)) ∙ counted .planes-held .ensures)
+    ∙ point-call (a .volume .now) (a .p .now)
 
 pub intersects-point-spec : {M : Type 1} → statement M
 intersects-point-spec =
     tie.close
-    (tie.spec (λ c κs. search needs) (λ c. search needs) (λ c κs. search needs) intersects-point-requires (λ c κs. search needs) (λ c. search needs) returns returns-2)
+    (tie.spec returns (λ c κs. search needs) (λ c. search needs) (λ c κs. search needs) intersects-point-requires (λ c κs. search needs) (λ c. search needs) returns-2 returns-3)

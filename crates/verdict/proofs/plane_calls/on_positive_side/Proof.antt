@@ -1,5 +1,5 @@
 -- `plane_calls::on_positive_side` meets its contract: the lengths by its tests, the result by what it calls. Assumes nothing.
-use mathlib.Core.Path.{refl, sym, ap₂, _∙_}
+use mathlib.Core.Path.{refl, ap₂, _∙_}
 use borrow.Author.Tests.{eq-eqb, ne-eqb}
 use Rattle.verdict.specs.Plane.{onPositiveSide}
 use Rattle.verdict.specs.Calls.{sideCall}
@@ -19,24 +19,14 @@ returns-2 c = no-answer _ _ _ (both (eq-eqb _ _ (c .before .if1 .left)) (ne-eqb 
 returns-3 : tie.Need-returns-3
 unfolding sideCall
 returns-3 c =
-    let told = c .before in
-    let second = told .before in
+    let asked = c .before in
+    let second = asked .before in
     let first = second .before in
     let tested = first .before in
-    answered _ _ _ _
+    c .of .ensures
+    ∙ answered _ _ _ _
     (both (eq-eqb _ _ (tested .before .if1 .left)) (eq-eqb _ _ (tested .if2 .left)))
-    (sym (c .if3 .taken) ∙ told .on-positive-side .ensures ∙ ap₂ onPositiveSide (first .load .ensures) (second .load2 .ensures))
-
-returns-4 : tie.Need-returns-4
-unfolding sideCall
-returns-4 c =
-    let told = c .before in
-    let second = told .before in
-    let first = second .before in
-    let tested = first .before in
-    answered _ _ _ _
-    (both (eq-eqb _ _ (tested .before .if1 .left)) (eq-eqb _ _ (tested .if2 .left)))
-    (sym (c .if3 .left) ∙ told .on-positive-side .ensures ∙ ap₂ onPositiveSide (first .load .ensures) (second .load2 .ensures))
+    (asked .on-positive-side .ensures ∙ ap₂ onPositiveSide (first .load .ensures) (second .load2 .ensures))
 
 pub on-positive-side-spec : {M : Type 1} → statement M
-on-positive-side-spec = tie.close (tie.spec returns returns-2 (λ c κs. tt) (λ c κs. tt) (λ c κs. tt) returns-3 returns-4)
+on-positive-side-spec = tie.close (tie.spec returns returns-2 (λ c κs. tt) (λ c κs. tt) (λ c κs. tt) (λ c κs. tt) returns-3)

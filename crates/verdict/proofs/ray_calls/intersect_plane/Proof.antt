@@ -5,13 +5,12 @@ use mathlib.Core.List.{List, [], _∷_}
 use borrow.Author.Needs.{needs}
 use borrow.Author.Tests.{eq-eqb, ne-eqb}
 use lib.Ieee.{Float}
-use Rattle.number.specs.Answer.{write}
+use Rattle.number.specs.Answer.{write, replied}
 use Rattle.verdict.specs.declared.ray.PlaneHit.{PlaneHit}
 use Rattle.verdict.specs.declared.ray.PlaneHit.the-variants.{At}
 use Rattle.verdict.specs.Ray.{frontFlag, planeHit, planeHitNumbers}
-use Rattle.verdict.specs.Calls.{replied, planeHitCall}
-use Rattle.number.proofs.Ways.{no-input, no-room, left, written}
-use Rattle.verdict.proofs.Calls.{same-reply}
+use Rattle.verdict.specs.Calls.{planeHitCall}
+use Rattle.number.proofs.Ways.{no-input, no-room, left, written, same-reply}
 use Rattle.verdict.proofs.Same.{both}
 use Rattle.verdict.proofs.ray_calls.intersect_plane.Statement.{statement}
 use Rattle.verdict.proofs.ray_calls.intersect_plane.Tie as tie

@@ -5,15 +5,14 @@ use mathlib.Core.List.{List, [], _∷_}
 use borrow.Author.Needs.{needs}
 use borrow.Author.Tests.{eq-eqb, ne-eqb}
 use lib.Ieee.{Float}
-use Rattle.number.specs.Answer.{write}
+use Rattle.number.specs.Answer.{write, replied}
 use Rattle.matrix.specs.declared.vec.Vec3d.{Vec3d}
 use Rattle.verdict.specs.declared.ray.Ray.{Ray}
 use Rattle.verdict.specs.declared.ray.TriangleHit.{TriangleHit}
 use Rattle.verdict.specs.declared.ray.TriangleHit.the-variants.{Hit}
 use Rattle.verdict.specs.Ray.{frontFlag, triangleHit, triangleHitNumbers}
-use Rattle.verdict.specs.Calls.{replied, triangleHitCall}
-use Rattle.number.proofs.Ways.{no-input, no-room, left, written}
-use Rattle.verdict.proofs.Calls.{same-reply}
+use Rattle.verdict.specs.Calls.{triangleHitCall}
+use Rattle.number.proofs.Ways.{no-input, no-room, left, written, same-reply}
 use Rattle.verdict.proofs.Same.{both}
 use Rattle.verdict.proofs.ray_calls.intersect_triangle.Statement.{statement}
 use Rattle.verdict.proofs.ray_calls.intersect_triangle.Tie as tie

@@ -4,7 +4,7 @@ use mathlib.Core.Bool.{Bool, cond}
 use native.Mathlib.Omega.{arith}
 use borrow.Author.Needs.{needs}
 use borrow.Author.Tests.{eq-eqb, ne-eqb}
-use Rattle.verdict.specs.Volume.{rayCount}
+use Rattle.verdict.specs.View.{rayCount}
 use Rattle.verdict.proofs.triangle.sight_lines.Statement.{statement}
 use Rattle.verdict.proofs.triangle.sight_lines.Tie as tie
 

@@ -4,7 +4,7 @@ use mathlib.Core.List.{[], _∷_, _++_}
 use borrow.Author.Needs.{needs}
 use lib.Ieee.{Float}
 use Rattle.matrix.specs.Matrix.{entries}
-use Rattle.verdict.specs.Projection.{kindNumber}
+use Rattle.projection.specs.Projection.{kindNumber}
 use Rattle.camera.specs.declared.camera.Camera.{Camera}
 use Rattle.camera.specs.Camera.{numbers}
 use Rattle.camera.proofs.camera.Camera.numbers.Statement.{statement}

@@ -6,8 +6,8 @@ use Rattle.number.specs.Arithmetic.{_⊕_, _⊗_}
 use Rattle.number.specs.Format.{narrowOf}
 use Rattle.matrix.specs.declared.matrix.Mat4d.{Mat4d}
 use Rattle.matrix.proofs.Literals.{half-bits}
-use Rattle.verdict.specs.Projection.{width, height}
-use Rattle.verdict.specs.declared.projection.ProjectionParams.{ProjectionParams}
+use Rattle.projection.specs.Projection.{width, height}
+use Rattle.projection.specs.declared.projection.ProjectionParams.{ProjectionParams}
 use Rattle.camera.specs.declared.camera.Camera.{Camera}
 use Rattle.camera.specs.Camera.{toAperture, cameraOf}
 use Rattle.camera.proofs.camera.Camera.seeing.Statement.{statement}

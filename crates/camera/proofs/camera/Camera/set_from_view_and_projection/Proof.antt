@@ -2,6 +2,7 @@
 use mathlib.Core.Path.{_≡_, refl, sym, ap, ap₂, _∙_}
 use mathlib.Core.Bool.{Bool, true, false}
 use borrow.Author.Needs.{needs}
+use borrow.Author.Tests.{not-true, not-false}
 use lib.Ieee.{Float}
 use Rattle.number.specs.Answer.{unless}
 use Rattle.number.specs.Slice.{allFinite}
@@ -10,11 +11,10 @@ use Rattle.matrix.specs.Inverse.{inverse}
 use Rattle.matrix.specs.declared.matrix.Mat4d.{Mat4d}
 use Rattle.matrix.specs.declared.inverse.Inverted.{Inverted}
 use Rattle.matrix.specs.declared.inverse.Inverted.the-variants.{Matrix}
-use Rattle.verdict.specs.Projection.{recovered}
-use Rattle.verdict.specs.declared.projection.ProjectionParams.{ProjectionParams}
-use Rattle.verdict.specs.declared.projection.Recovered.{Recovered}
-use Rattle.verdict.specs.declared.projection.Recovered.the-variants.{Params}
-use Rattle.verdict.proofs.Flags.{negated}
+use Rattle.projection.specs.Projection.{recovered}
+use Rattle.projection.specs.declared.projection.ProjectionParams.{ProjectionParams}
+use Rattle.projection.specs.declared.projection.Recovered.{Recovered}
+use Rattle.projection.specs.declared.projection.Recovered.the-variants.{Params}
 use Rattle.camera.specs.declared.camera.Camera.{Camera}
 use Rattle.camera.specs.declared.camera.Set.the-variants.{To, Refused}
 use Rattle.camera.specs.Camera.{numbers, cameraOf, finiteOnly, opened, cameraFrom}
@@ -59,7 +59,7 @@ returns-3 c =
     let turned = opened .before .before in
     let a = turned .before .args in
     by-test (a .view) (a .projection) (a .focal-length) _ _ _ _ false (sym (opened .transform .given .1) ∙ turned .inverse .ensures)
-    (sym (known .params .given .1) ∙ read .from-matrix .ensures) (seen .seeing .ensures) (tested .is-finite .ensures) (negated _ true (c .if1 .taken))
+    (sym (known .params .given .1) ∙ read .from-matrix .ensures) (seen .seeing .ensures) (tested .is-finite .ensures) (not-true _ (c .if1 .taken))
 
 returns-4 : tie.Need-returns-4
 returns-4 c =
@@ -71,7 +71,7 @@ returns-4 c =
     let turned = opened .before .before in
     let a = turned .before .args in
     by-test (a .view) (a .projection) (a .focal-length) _ _ _ _ true (sym (opened .transform .given .1) ∙ turned .inverse .ensures)
-    (sym (known .params .given .1) ∙ read .from-matrix .ensures) (seen .seeing .ensures) (tested .is-finite .ensures) (negated _ false (c .if1 .left))
+    (sym (known .params .given .1) ∙ read .from-matrix .ensures) (seen .seeing .ensures) (tested .is-finite .ensures) (not-false _ (c .if1 .left))
 
 pub set-from-view-and-projection-spec : {M : Type 1} → statement M
 set-from-view-and-projection-spec =

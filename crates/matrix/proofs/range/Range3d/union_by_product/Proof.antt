@@ -1,5 +1,5 @@
 -- `Range3d::union_by_product` meets its contract by its tests of emptiness, and what one comparison settles by `proofs/Settled.antt`. Assumes nothing.
-use mathlib.Core.Path.{_≡_, ap, _∙_}
+use mathlib.Core.Path.{ap, _∙_}
 use Rattle.matrix.specs.Range.{union}
 use Rattle.matrix.proofs.Composed.{yields-second, yields-first, unites}
 use Rattle.matrix.proofs.Settled.{found-outward}

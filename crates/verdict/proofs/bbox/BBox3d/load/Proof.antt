@@ -1,19 +1,14 @@
 -- `BBox3d::load` meets its contract: part by part by what it calls. Assumes nothing.
-use mathlib.Core.Path.{_≡_, ap}
-use mathlib.Core.Bool.{Bool}
+use mathlib.Core.Path.{ap}
 use borrow.Author.Needs.{needs}
 use lib.Ieee.{Float, eq}
+use Rattle.number.specs.Limits.{flagPlace}
 use Rattle.number.specs.Slice.{at}
-use Rattle.matrix.specs.declared.matrix.Mat4d.{Mat4d}
-use Rattle.matrix.specs.declared.range.Range3d.{Range3d}
 use Rattle.matrix.proofs.Literals.{one-bits}
 use Rattle.matrix.proofs.Same.{same-range, same-matrix}
-use Rattle.verdict.specs.BBox.{box}
+use Rattle.verdict.proofs.Boxes.{same-box}
 use Rattle.verdict.proofs.bbox.BBox3d.load.Statement.{statement}
 use Rattle.verdict.proofs.bbox.BBox3d.load.Tie as tie
-
-same-box : {r r' : Range3d} {m m' : Mat4d} {f f' : Bool} → r ≡ r' → m ≡ m' → f ≡ f' → box r m f ≡ box r' m' f'
-same-box p q e = cc
 
 returns : tie.Need-returns
 returns c =
@@ -25,7 +20,7 @@ returns c =
     let min = max .before in
     same-box (same-range (min .vec3-at .ensures) (max .vec3-at2 .ensures))
     (same-matrix (r0 .vec4-at .ensures) (r1 .vec4-at2 .ensures) (r2 .vec4-at3 .ensures) (r3 .vec4-at4 .ensures))
-    (ap (λ (x : Float). eq (at (min .before .before .args .s .now) 22) x) one-bits)
+    (ap (λ (x : Float). eq (at (min .before .before .args .s .now) flagPlace) x) one-bits)
 
 pub load-spec : {M : Type 1} → statement M
 load-spec =

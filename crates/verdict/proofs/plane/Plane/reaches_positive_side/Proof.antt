@@ -1,4 +1,4 @@
--- `Plane::reaches_positive_side` meets its contract: an empty range by its test, any other by its furthest corner. Assumes nothing.
+-- `Plane::reaches_positive_side` meets its contract: an empty range by its test, any other by the dot product of the normal and its furthest corner. Assumes nothing.
 use mathlib.Core.Path.{_≡_}
 use mathlib.Core.Bool.{Bool, true, false}
 use lib.Ieee.{Float, le}
@@ -9,6 +9,7 @@ use Rattle.matrix.specs.Range.{isEmpty}
 use Rattle.matrix.proofs.Same.{same-vec3}
 use Rattle.verdict.specs.declared.plane.Plane.{Plane}
 use Rattle.verdict.specs.Plane.{furthest, reachesPositiveSide}
+use Rattle.verdict.proofs.ReachSum.{reach-by-dot}
 use Rattle.verdict.proofs.plane.Plane.reaches_positive_side.Statement.{statement}
 use Rattle.verdict.proofs.plane.Plane.reaches_positive_side.Tie as tie
 
@@ -18,8 +19,7 @@ module _ (p : Plane) (r : Range3d) (e : Bool) (q : e ≡ isEmpty r) where
   none t = rw (← q, t)
 
   some : (d : Float) (v : Vec3d) → e ≡ false → d ≡ dot (p .normal) v → v ≡ furthest (p .normal) r → le (p .distance) d ≡ reachesPositiveSide p r
-  unfolding reachesPositiveSide
-  some d v t h i = rw (← q, t, h, i)
+  some d v t h i = rw (reach-by-dot p r, ← q, t, h, i)
 
 returns : tie.Need-returns
 returns c = none _ _ _ (c .before .is-empty .ensures) (c .if1 .taken)

@@ -9,7 +9,7 @@ use Rattle.matrix.specs.declared.range.Range3d.{Range3d}
 use Rattle.matrix.specs.Transform.{homogeneous}
 use Rattle.verdict.specs.declared.plane.Plane.{Plane}
 use Rattle.verdict.specs.Plane.{fromEquation, equation, reachesPositiveSide, underInverseTranspose}
-use Rattle.verdict.specs.Origin.{holdsOrigin, originAhead}
+use Rattle.verdict.specs.Steps.Origin.{holdsOrigin, originAhead}
 use Rattle.verdict.proofs.Origin.{origin-reaches}
 use Rattle.verdict.proofs.plane.Plane.reaches_under.Statement.{statement}
 use Rattle.verdict.proofs.plane.Plane.reaches_under.Tie as tie

@@ -1,0 +1,13 @@
+-- `ProjectionParams::orthographic` meets its contract by computation. Assumes nothing.
+use mathlib.Core.Path.{refl}
+use lib.Count.{trailingZeros}
+use lib.Ieee.{ofBits, round, units, odd, size, span, climb, neg}
+use Rattle.projection.proofs.projection.ProjectionParams.orthographic.Statement.{statement}
+use Rattle.projection.proofs.projection.ProjectionParams.orthographic.Tie as tie
+
+returns : tie.Need-returns
+unfolding ofBits round units odd size span climb trailingZeros neg
+returns c = refl
+
+pub orthographic-spec : {M : Type 1} → statement M
+orthographic-spec = tie.close (tie.spec returns)

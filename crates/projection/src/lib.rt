@@ -1,0 +1,3 @@
+// Projections: what a projection matrix projects.
+pub mod projection;
+pub mod projection_calls;

@@ -1,0 +1,307 @@
+// What a projection matrix projects: the kind of projection, and the volume of camera space that it keeps.
+ghost use mathlib.Core.Path.{_≡_};
+ghost use Rattle.projection.specs.Projection.{kindNumber, numbers, paramsOf, loaded, perspective, orthographic, projecting, around, perspectiveOf, orthographicOf, close, closeTo, bounded, confirmed, recovered};
+ghost use Rattle.number.specs.Slice.{stored};
+use matrix::matrix::Mat4d;
+use matrix::vec::Vec4d;
+use number::order::abs;
+use number::order::is_finite;
+use number::order::upper;
+use number::slice;
+use number::slice::at;
+
+// How far a number of a matrix may be from the one that a projection holds there, as a fraction of the larger of the two
+// where that exceeds one.
+pub const TOLERANCE: f64 = 1e-6;
+
+pub enum Projection {
+    Perspective,
+    Orthographic,
+}
+
+// The window from left to right and from bottom to top, and the distances to the near and the far end of the volume. The
+// window of a perspective projection stands at a distance of one from the camera.
+pub struct ProjectionParams {
+    pub projection: Projection,
+    pub left: f64,
+    pub right: f64,
+    pub bottom: f64,
+    pub top: f64,
+    pub near: f64,
+    pub far: f64,
+}
+
+// The numbers of a record, or that the first of them names no kind of projection.
+pub enum Loaded {
+    Params(ProjectionParams),
+    UnknownKind,
+}
+
+// What a matrix projects, or that it is no projection.
+pub enum Recovered {
+    Params(ProjectionParams),
+    NotAProjection,
+}
+
+// The number of a kind in a record.
+pub fn kind_number(projection: Projection) -> f64
+    ensures { λ r. ⌜ r ≡ kindNumber projection ⌝ }
+{
+    match projection {
+        Projection::Perspective => 0.0,
+        Projection::Orthographic => 1.0,
+    }
+}
+
+// The volume that a record describes, its kind given.
+fn params(projection: Projection, s: &[f64]) -> ProjectionParams
+    ensures { λ r. ⌜ r ≡ paramsOf projection (now (s .entry)) ⌝ }
+{
+    ProjectionParams {
+        projection,
+        left: at(s, 1),
+        right: at(s, 2),
+        bottom: at(s, 3),
+        top: at(s, 4),
+        near: at(s, 5),
+        far: at(s, 6),
+    }
+}
+
+// The volume with a window of a width and a height, whose center is x, y.
+fn around(
+    projection: Projection,
+    width: f64,
+    height: f64,
+    x: f64,
+    y: f64,
+    near: f64,
+    far: f64,
+) -> ProjectionParams
+    ensures { λ r. ⌜ r ≡ around projection width height x y near far ⌝ }
+{
+    ProjectionParams {
+        projection,
+        left: x - 0.5 * width,
+        right: x + 0.5 * width,
+        bottom: y - 0.5 * height,
+        top: y + 0.5 * height,
+        near,
+        far,
+    }
+}
+
+// The volume that a matrix projects if it is a perspective projection.
+fn perspective_of(m: Mat4d) -> ProjectionParams
+    ensures { λ r. ⌜ r ≡ perspectiveOf m ⌝ }
+{
+    let width = 2.0 / m.r0.x;
+    let height = 2.0 / m.r1.y;
+    let x = 0.5 * width * m.r2.x;
+    let y = 0.5 * height * m.r2.y;
+    let near = m.r3.z / (m.r2.z - 1.0);
+    let far = m.r3.z / (m.r2.z + 1.0);
+    around(Projection::Perspective, width, height, x, y, near, far)
+}
+
+// The volume that a matrix projects if it is an orthographic projection.
+fn orthographic_of(m: Mat4d) -> ProjectionParams
+    ensures { λ r. ⌜ r ≡ orthographicOf m ⌝ }
+{
+    let width = 2.0 / m.r0.x;
+    let height = 2.0 / m.r1.y;
+    let x = -0.5 * width * m.r3.x;
+    let y = -0.5 * height * m.r3.y;
+    let half_depth = 1.0 / m.r2.z;
+    let middle = half_depth * m.r3.z;
+    around(
+        Projection::Orthographic,
+        width,
+        height,
+        x,
+        y,
+        middle + half_depth,
+        middle - half_depth,
+    )
+}
+
+// Whether a number of a matrix is the one that a projection holds there.
+fn close(given: f64, built: f64) -> bool
+    ensures { λ r. ⌜ r ≡ close given built ⌝ }
+{
+    let size = upper(upper(1.0, abs(given)), abs(built));
+    let near = abs(given - built) <= TOLERANCE * size;
+    is_finite(given) & is_finite(built) & near
+}
+
+// Whether each of its numbers is.
+fn close_to(given: Mat4d, built: Mat4d) -> bool
+    ensures { λ r. ⌜ r ≡ closeTo given built ⌝ }
+{
+    close(given.r0.x, built.r0.x)
+        & close(given.r0.y, built.r0.y)
+        & close(given.r0.z, built.r0.z)
+        & close(given.r0.w, built.r0.w)
+        & close(given.r1.x, built.r1.x)
+        & close(given.r1.y, built.r1.y)
+        & close(given.r1.z, built.r1.z)
+        & close(given.r1.w, built.r1.w)
+        & close(given.r2.x, built.r2.x)
+        & close(given.r2.y, built.r2.y)
+        & close(given.r2.z, built.r2.z)
+        & close(given.r2.w, built.r2.w)
+        & close(given.r3.x, built.r3.x)
+        & close(given.r3.y, built.r3.y)
+        & close(given.r3.z, built.r3.z)
+        & close(given.r3.w, built.r3.w)
+}
+
+impl ProjectionParams {
+    // The matrix that sees through the window from the origin, along −Z.
+    pub fn perspective(self) -> Mat4d
+        ensures { λ r. ⌜ r ≡ perspective self ⌝ }
+    {
+        let width = self.right - self.left;
+        let height = self.top - self.bottom;
+        let depth = self.far - self.near;
+        Mat4d {
+            r0: Vec4d {
+                x: 2.0 / width,
+                y: 0.0,
+                z: 0.0,
+                w: 0.0,
+            },
+            r1: Vec4d {
+                x: 0.0,
+                y: 2.0 / height,
+                z: 0.0,
+                w: 0.0,
+            },
+            r2: Vec4d {
+                x: (self.right + self.left) / width,
+                y: (self.top + self.bottom) / height,
+                z: -(self.far + self.near) / depth,
+                w: -1.0,
+            },
+            r3: Vec4d {
+                x: 0.0,
+                y: 0.0,
+                z: -2.0 * self.near * self.far / depth,
+                w: 0.0,
+            },
+        }
+    }
+
+    // The matrix that sees the box along −Z.
+    pub fn orthographic(self) -> Mat4d
+        ensures { λ r. ⌜ r ≡ orthographic self ⌝ }
+    {
+        let width = self.right - self.left;
+        let height = self.top - self.bottom;
+        let depth = self.far - self.near;
+        Mat4d {
+            r0: Vec4d {
+                x: 2.0 / width,
+                y: 0.0,
+                z: 0.0,
+                w: 0.0,
+            },
+            r1: Vec4d {
+                x: 0.0,
+                y: 2.0 / height,
+                z: 0.0,
+                w: 0.0,
+            },
+            r2: Vec4d {
+                x: 0.0,
+                y: 0.0,
+                z: -2.0 / depth,
+                w: 0.0,
+            },
+            r3: Vec4d {
+                x: -(self.right + self.left) / width,
+                y: -(self.top + self.bottom) / height,
+                z: -(self.far + self.near) / depth,
+                w: 1.0,
+            },
+        }
+    }
+
+    // The matrix that projects this volume.
+    pub fn matrix(self) -> Mat4d
+        ensures { λ r. ⌜ r ≡ projecting self ⌝ }
+    {
+        let projection = self.projection;
+        match projection {
+            Projection::Perspective => self.perspective(),
+            Projection::Orthographic => self.orthographic(),
+        }
+    }
+
+    // Whether its six numbers are finite.
+    fn bounded(self) -> bool
+        ensures { λ r. ⌜ r ≡ bounded self ⌝ }
+    {
+        is_finite(self.left)
+            & is_finite(self.right)
+            & is_finite(self.bottom)
+            & is_finite(self.top)
+            & is_finite(self.near)
+            & is_finite(self.far)
+    }
+
+    // This volume, if it gives the matrix back.
+    fn confirmed(self, matrix: Mat4d) -> Recovered
+        ensures { λ r. ⌜ r ≡ confirmed self matrix ⌝ }
+    {
+        if self.bounded() & close_to(matrix, self.matrix()) {
+            return Recovered::Params(self);
+        }
+        Recovered::NotAProjection
+    }
+
+    // The volume that a matrix projects.
+    pub fn from_matrix(matrix: Mat4d) -> Recovered
+        ensures { λ r. ⌜ r ≡ recovered matrix ⌝ }
+    {
+        if abs(matrix.r2.w + 1.0) < TOLERANCE {
+            return perspective_of(matrix).confirmed(matrix);
+        }
+        if abs(matrix.r2.w) < TOLERANCE {
+            return orthographic_of(matrix).confirmed(matrix);
+        }
+        Recovered::NotAProjection
+    }
+
+    // The first seven numbers of a slice.
+    pub fn load(s: &[f64]) -> Loaded
+        ensures { λ r. ⌜ r ≡ loaded (now (s .entry)) ⌝ }
+    {
+        let kind = at(s, 0);
+        if kind == 0.0 {
+            return Loaded::Params(params(Projection::Perspective, s));
+        }
+        if kind == 1.0 {
+            return Loaded::Params(params(Projection::Orthographic, s));
+        }
+        Loaded::UnknownKind
+    }
+
+    // Its numbers, into a slice of seven.
+    pub fn store(self, out: &mut [f64])
+        ensures { λ _. ⌜ now (out .exit) ≡ stored (numbers self) (now (out .entry)) ⌝ }
+    {
+        let projection = self.projection;
+        let kind = kind_number(projection);
+        let all = [
+            kind,
+            self.left,
+            self.right,
+            self.bottom,
+            self.top,
+            self.near,
+            self.far,
+        ];
+        slice::store(&all, out);
+    }
+}

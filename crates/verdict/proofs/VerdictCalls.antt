@@ -1,0 +1,54 @@
+-- Each verdict over lent slices is its checks in their order, then the verdict of the values. Assumes nothing.
+use mathlib.Core.Path.{_≡_, refl, sym, _∙_}
+use mathlib.Core.Bool.{true}
+use mathlib.Core.List.{List, [], _∷_}
+use Prim.Native.Nat.{ℕ}
+use lib.ListN.{length}
+use lib.Ieee.{Float}
+use Rattle.number.specs.Answer.{result}
+use Rattle.number.proofs.Refusals.{has-yes}
+use Rattle.matrix.specs.Vec.{vec3Of}
+use Rattle.matrix.specs.Matrix.{matrixOf}
+use Rattle.verdict.specs.BBox.{boxOf}
+use Rattle.verdict.specs.BBoxCalls.{flagged}
+use Rattle.verdict.specs.View.{planesHeld, planesOf, raysOf}
+use Rattle.verdict.specs.Frustum.{pointInView, segmentInView, triangleInView, boxInView, boxInViewVolume}
+use Rattle.verdict.specs.FrustumCalls.{haveLengths, verdictAfter, verdictBy, intersectsPointCall, intersectsSegmentCall, intersectsTriangleCall, intersectsBoxCall, viewVolumeCall}
+use Rattle.verdict.proofs.Same.{both}
+use Rattle.verdict.proofs.VerdictChecks.{one-input, two-inputs, answered}
+
+pub point-call : (v p : List Float) → verdictAfter (haveLengths ((3, p) ∷ [])) (planesHeld v) true (λ n. pointInView (planesOf v n) (vec3Of p)) ≡ intersectsPointCall v p
+unfolding intersectsPointCall verdictBy
+point-call v p = refl
+
+pub segment-call : (v p0 p1 : List Float)
+    → verdictAfter (haveLengths ((3, p0) ∷ (3, p1) ∷ [])) (planesHeld v) true (λ n. segmentInView (planesOf v n) (vec3Of p0) (vec3Of p1)) ≡ intersectsSegmentCall v p0 p1
+unfolding intersectsSegmentCall verdictBy
+segment-call v p0 p1 = refl
+
+pub triangle-call : (v p0 p1 p2 : List Float)
+    → verdictAfter (haveLengths ((3, p0) ∷ (3, p1) ∷ (3, p2) ∷ [])) (planesHeld v) true
+    (λ n. triangleInView (planesOf v n) (raysOf v n) (vec3Of p0) (vec3Of p1) (vec3Of p2)) ≡ intersectsTriangleCall v p0 p1 p2
+unfolding intersectsTriangleCall verdictBy
+triangle-call v p0 p1 p2 = refl
+
+pub box-call : (v b : List Float) → verdictAfter (haveLengths ((23, b) ∷ [])) (planesHeld v) (flagged b) (λ n. boxInView (planesOf v n) (boxOf b)) ≡ intersectsBoxCall v b
+unfolding intersectsBoxCall verdictBy
+box-call v b = refl
+
+pub clip-call : (b m : List Float)
+    → verdictAfter (haveLengths ((23, b) ∷ (16, m) ∷ [])) (result (boxOf b)) (flagged b) (λ x. boxInViewVolume x (matrixOf m)) ≡ viewVolumeCall b m
+unfolding viewVolumeCall
+clip-call b m = refl
+
+-- ---- by a volume that holds n planes, where the other records have their lengths and the flag is one
+
+module _ (v : List Float) (n : ℕ) (e : result n ≡ planesHeld v) where
+  pub point-answered : (p : List Float) → length p ≡ 3 → intersectsPointCall v p ≡ result (pointInView (planesOf v n) (vec3Of p))
+  point-answered p h = sym (answered _ _ _ _ (one-input 3 p ∙ has-yes 3 p h) n _ e refl refl ∙ point-call v p)
+
+  pub segment-answered : (p q : List Float) → length p ≡ 3 → length q ≡ 3 → intersectsSegmentCall v p q ≡ result (segmentInView (planesOf v n) (vec3Of p) (vec3Of q))
+  segment-answered p q h i = sym (answered _ _ _ _ (two-inputs 3 p 3 q ∙ both (has-yes 3 p h) (has-yes 3 q i)) n _ e refl refl ∙ segment-call v p q)
+
+  pub box-answered : (b : List Float) → length b ≡ 23 → flagged b ≡ true → intersectsBoxCall v b ≡ result (boxInView (planesOf v n) (boxOf b))
+  box-answered b h f = sym (answered _ _ _ _ (one-input 23 b ∙ has-yes 23 b h) n _ e f refl ∙ box-call v b)
