@@ -4,12 +4,12 @@ use mathlib.Core.Bool.{true}
 use mathlib.Core.List.{List}
 use Prim.Native.Nat.{ℕ}
 use native.Mathlib.Omega.{arith}
+use borrow.Author.Tests.{eq-eqb}
 use lib.ListN.{length}
 use lib.Ieee.{Float}
 use Rattle.number.specs.Limits.{boxLength}
 use Rattle.number.specs.Answer.{result, write, leaving}
 use Rattle.number.specs.Slice.{at}
-use Rattle.number.proofs.Refusals.{has-yes}
 use Rattle.matrix.specs.Vec.{vec3Of, coordinates}
 use Rattle.matrix.specs.Matrix.{matrixOf}
 use Rattle.matrix.specs.Range.{bounds}
@@ -52,14 +52,14 @@ module _ (v : List Float) {n : ℕ} (W : VolumeRecord v n) where
 pub point-moves : (m p out : List Float) → length m ≡ 16 → length p ≡ 3 → length out ≡ 3
     → transformCall m p out ≡ write (coordinates (transformed (matrixOf m) (vec3Of p)))
 unfolding transformCall leaving
-point-moves m p out h i j = rw (has-yes 16 m h, has-yes 3 p i, has-yes 3 out j)
+point-moves m p out h i j = rw (eq-eqb _ _ h, eq-eqb _ _ i, eq-eqb _ _ j)
 
 pub box-moves : (b m out : List Float) → length b ≡ boxLength → length m ≡ 16 → length out ≡ boxLength → flagged b ≡ true
     → transformBoxCall b m out ≡ write (numbers (transformedBox (boxOf b) (matrixOf m)))
 unfolding transformBoxCall leaving
-box-moves b m out h i j f = rw (has-yes boxLength b h, has-yes 16 m i, has-yes boxLength out j, f)
+box-moves b m out h i j f = rw (eq-eqb _ _ h, eq-eqb _ _ i, eq-eqb _ _ j, f)
 
 pub range-writes : (s out : List Float) → length s ≡ boxLength → length out ≡ 6 → flagged s ≡ true
     → alignedRangeCall s out ≡ write (bounds (alignedRange (boxOf s)))
 unfolding alignedRangeCall leaving
-range-writes s out h i f = rw (has-yes boxLength s h, has-yes 6 out i, f)
+range-writes s out h i f = rw (eq-eqb _ _ h, eq-eqb _ _ i, f)

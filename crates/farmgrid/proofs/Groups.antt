@@ -10,7 +10,6 @@ use lib.Seq.{take-at, drop-at}
 use lib.Ieee.{Float}
 use Rattle.number.specs.Limits.{boxLength, mostBoxes}
 use Rattle.number.specs.Answer.{write}
-use Rattle.number.proofs.Refusals.{has-yes}
 use Rattle.group.specs.Group.{records, boxCount, recordsOf, grouped, isGroup, isWhole, allFlagged, groupCall}
 use Rattle.group.proofs.Repeated.{AllGood}
 use Rattle.farmgrid.specs.Grouping.{joined}
@@ -54,4 +53,4 @@ module _ (ss : List (List Float)) (g : AllGood ss) (some : 1 ≤ length ss) (mos
 
   pub group-writes : (out : List Float) → length out ≡ boxLength → groupCall (joined ss) out ≡ write (grouped ss)
   unfolding groupCall
-  group-writes out room = rw (group, whole, has-yes boxLength out room, records-are, all-flagged ss g)
+  group-writes out room = rw (group, whole, eq-eqb _ _ room, records-are, all-flagged ss g)

@@ -2,11 +2,11 @@
 use mathlib.Core.Path.{_≡_, refl, ap}
 use mathlib.Core.Bool.{Bool, true, false}
 use mathlib.Core.List.{List}
+use borrow.Author.Tests.{eq-eqb}
 use lib.ListN.{length}
 use lib.Ieee.{Float, eq, round}
 use Rattle.number.specs.Limits.{boxLength}
 use Rattle.number.specs.Answer.{write, leaving}
-use Rattle.number.proofs.Refusals.{has-yes}
 use Rattle.matrix.specs.Constants.{one}
 use Rattle.verdict.specs.BBox.{box, numbers, boxOf, flagOf, isFlag, combined}
 use Rattle.verdict.specs.BBoxCalls.{flagged, combineCall}
@@ -29,4 +29,4 @@ read-back b = ap (box (b .range) (b .matrix)) (flag-back (b .flag))
 pub combine-writes : (a b out : List Float) → length a ≡ boxLength → length b ≡ boxLength → length out ≡ boxLength → flagged a ≡ true → flagged b ≡ true
     → combineCall a b out ≡ write (numbers (combined (boxOf a) (boxOf b)))
 unfolding combineCall leaving
-combine-writes a b out h i j f g = rw (has-yes boxLength a h, has-yes boxLength b i, has-yes boxLength out j, f, g)
+combine-writes a b out h i j f g = rw (eq-eqb _ _ h, eq-eqb _ _ i, eq-eqb _ _ j, f, g)

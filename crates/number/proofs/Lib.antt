@@ -27,13 +27,11 @@ pub mod Filled
 pub mod Words
 pub mod Centimetres
 pub mod Halves
-pub mod Refusals
 pub mod Narrowing
 pub mod Formats
 pub mod Patterns
 pub mod Worked
 pub mod Ways
-pub mod Calls
 pub mod Comparisons
 pub mod SidesOfZero
 pub mod RuleOfSigns

@@ -11,7 +11,7 @@ use lib.Ieee.{Float}
 use Rattle.number.specs.Limits.{fewestPlanes, mostPlanes}
 use Rattle.number.specs.Answer.{Outcome, refused, result, unless, has}
 use Rattle.number.specs.Slice.{at}
-use Rattle.number.proofs.Refusals.{stops, passes}
+use Rattle.number.proofs.Ways.{stops, passes}
 use Rattle.verdict.specs.View.{volumeLength, planeCountOf, andThen, planesHeld}
 use Rattle.verdict.specs.Steps.Passes.{HasPlanes, IsView}
 use Rattle.verdict.proofs.PlaneCount.{count-within}

@@ -3,10 +3,11 @@ use mathlib.Core.Path.{_≡_, refl, sym, _∙_}
 use mathlib.Core.Bool.{true}
 use mathlib.Core.List.{List, [], _∷_}
 use Prim.Native.Nat.{ℕ}
+use borrow.Author.Tests.{eq-eqb}
 use lib.ListN.{length}
 use lib.Ieee.{Float}
 use Rattle.number.specs.Answer.{result}
-use Rattle.number.proofs.Refusals.{has-yes}
+use Rattle.number.proofs.Ways.{both}
 use Rattle.matrix.specs.Vec.{vec3Of}
 use Rattle.matrix.specs.Matrix.{matrixOf}
 use Rattle.verdict.specs.BBox.{boxOf}
@@ -14,7 +15,6 @@ use Rattle.verdict.specs.BBoxCalls.{flagged}
 use Rattle.verdict.specs.View.{planesHeld, planesOf, raysOf}
 use Rattle.verdict.specs.Frustum.{pointInView, segmentInView, triangleInView, boxInView, boxInViewVolume}
 use Rattle.verdict.specs.FrustumCalls.{haveLengths, verdictAfter, verdictBy, intersectsPointCall, intersectsSegmentCall, intersectsTriangleCall, intersectsBoxCall, viewVolumeCall}
-use Rattle.verdict.proofs.Same.{both}
 use Rattle.verdict.proofs.VerdictChecks.{one-input, two-inputs, answered}
 
 pub point-call : (v p : List Float) → verdictAfter (haveLengths ((3, p) ∷ [])) (planesHeld v) true (λ n. pointInView (planesOf v n) (vec3Of p)) ≡ intersectsPointCall v p
@@ -45,10 +45,10 @@ clip-call b m = refl
 
 module _ (v : List Float) (n : ℕ) (e : result n ≡ planesHeld v) where
   pub point-answered : (p : List Float) → length p ≡ 3 → intersectsPointCall v p ≡ result (pointInView (planesOf v n) (vec3Of p))
-  point-answered p h = sym (answered _ _ _ _ (one-input 3 p ∙ has-yes 3 p h) n _ e refl refl ∙ point-call v p)
+  point-answered p h = sym (answered _ _ _ _ (one-input 3 p ∙ eq-eqb _ _ h) n _ e refl refl ∙ point-call v p)
 
   pub segment-answered : (p q : List Float) → length p ≡ 3 → length q ≡ 3 → intersectsSegmentCall v p q ≡ result (segmentInView (planesOf v n) (vec3Of p) (vec3Of q))
-  segment-answered p q h i = sym (answered _ _ _ _ (two-inputs 3 p 3 q ∙ both (has-yes 3 p h) (has-yes 3 q i)) n _ e refl refl ∙ segment-call v p q)
+  segment-answered p q h i = sym (answered _ _ _ _ (two-inputs 3 p 3 q ∙ both (eq-eqb _ _ h) (eq-eqb _ _ i)) n _ e refl refl ∙ segment-call v p q)
 
   pub box-answered : (b : List Float) → length b ≡ 23 → flagged b ≡ true → intersectsBoxCall v b ≡ result (boxInView (planesOf v n) (boxOf b))
-  box-answered b h f = sym (answered _ _ _ _ (one-input 23 b ∙ has-yes 23 b h) n _ e f refl ∙ box-call v b)
+  box-answered b h f = sym (answered _ _ _ _ (one-input 23 b ∙ eq-eqb _ _ h) n _ e f refl ∙ box-call v b)

@@ -5,7 +5,7 @@ use mathlib.Core.List.{List, [], _∷_}
 use Prim.Native.Nat.{ℕ}
 use lib.Ieee.{Float}
 use Rattle.number.specs.Answer.{Outcome, refused, result, unless, has}
-use Rattle.number.proofs.Refusals.{stops, passes}
+use Rattle.number.proofs.Ways.{stops, passes}
 use Rattle.verdict.specs.View.{andThen}
 use Rattle.verdict.specs.FrustumCalls.{haveLengths, verdictAfter}
 use Rattle.verdict.proofs.PlanesHeld.{goes-on, is-refused}

@@ -1,10 +1,9 @@
 -- `camera_calls::set_from_view_and_projection` meets its contract: the lengths by its tests, the result by what it calls. Assumes nothing.
 use mathlib.Core.Path.{_≡_, refl, sym, ap₂, _∙_}
-use mathlib.Core.Bool.{_&&_}
 use borrow.Author.Needs.{needs}
 use borrow.Author.Tests.{eq-eqb, ne-eqb}
 use lib.Ieee.{Float}
-use Rattle.number.proofs.Ways.{no-input, no-room, left, written, same-reply}
+use Rattle.number.proofs.Ways.{both, no-input, no-room, left, written, same-reply}
 use Rattle.matrix.specs.declared.matrix.Mat4d.{Mat4d}
 use Rattle.camera.specs.Camera.{cameraFrom, setNumbers, cameraCall}
 use Rattle.camera.proofs.camera_calls.set_from_view_and_projection.Statement.{statement}
@@ -16,15 +15,15 @@ of-loaded f = ap₂ (λ (v p : Mat4d). cameraFrom v p f)
 
 returns : tie.Need-returns
 unfolding cameraCall
-returns c = no-input _ _ _ _ (ap₂ _&&_ (ne-eqb _ _ (c .if1 .taken)) refl)
+returns c = no-input _ _ _ _ (both (ne-eqb _ _ (c .if1 .taken)) refl)
 
 returns-2 : tie.Need-returns-2
 unfolding cameraCall
-returns-2 c = no-input _ _ _ _ (ap₂ _&&_ (eq-eqb _ _ (c .before .if1 .left)) (ne-eqb _ _ (c .if2 .taken)))
+returns-2 c = no-input _ _ _ _ (both (eq-eqb _ _ (c .before .if1 .left)) (ne-eqb _ _ (c .if2 .taken)))
 
 returns-3 : tie.Need-returns-3
 unfolding cameraCall
-returns-3 c = no-room _ _ _ _ (ap₂ _&&_ (eq-eqb _ _ (c .before .before .if1 .left)) (eq-eqb _ _ (c .before .if2 .left))) (c .if3 .taken)
+returns-3 c = no-room _ _ _ _ (both (eq-eqb _ _ (c .before .before .if1 .left)) (eq-eqb _ _ (c .before .if2 .left))) (c .if3 .taken)
 
 returns-4 : tie.Need-returns-4
 unfolding cameraCall
@@ -36,7 +35,7 @@ returns-4 c =
     let first = second .before in
     let tested = first .before in
     written _ 24 _ _ _ _
-    (ap₂ _&&_ (eq-eqb _ _ (tested .before .before .if1 .left)) (eq-eqb _ _ (tested .before .if2 .left)))
+    (both (eq-eqb _ _ (tested .before .before .if1 .left)) (eq-eqb _ _ (tested .before .if2 .left)))
     (tested .if3 .left) refl (copied .store .ensures)
     (same-reply setNumbers _
     (sym (opened .camera .given .1) ∙ found .set-from-view-and-projection .ensures ∙ of-loaded _ (first .load .ensures) (second .load2 .ensures)))
@@ -52,7 +51,7 @@ returns-5 c =
     same-reply setNumbers _
     (sym (opened .refusal .given .1) ∙ found .set-from-view-and-projection .ensures ∙ of-loaded _ (first .load .ensures) (second .load2 .ensures))
     ∙ left _ 24 _ _
-    (ap₂ _&&_ (eq-eqb _ _ (tested .before .before .if1 .left)) (eq-eqb _ _ (tested .before .if2 .left)))
+    (both (eq-eqb _ _ (tested .before .before .if1 .left)) (eq-eqb _ _ (tested .before .if2 .left)))
     (tested .if3 .left)
 
 pub set-from-view-and-projection-spec : {M : Type 1} → statement M

@@ -1,45 +1,32 @@
 -- `matrix_calls::transform_affine` meets its contract: the lengths by its tests, the result by what it calls. Assumes nothing.
-use mathlib.Core.Path.{_≡_, refl, ap, ap₂, _∙_}
-use mathlib.Core.Bool.{_&&_}
-use mathlib.Core.List.{List}
+use mathlib.Core.Path.{refl, ap, ap₂, _∙_}
 use borrow.Author.Needs.{needs}
-use lib.Ieee.{Float}
-use Rattle.number.specs.Answer.{has}
-use Rattle.matrix.specs.Vec.{vec3Of, coordinates}
-use Rattle.matrix.specs.Matrix.{matrixOf}
+use borrow.Author.Tests.{eq-eqb, ne-eqb}
+use Rattle.matrix.specs.Vec.{coordinates}
 use Rattle.matrix.specs.Transform.{affine}
 use Rattle.matrix.specs.Calls.{affineCall}
-use Rattle.number.specs.Answer.{writing}
-use Rattle.number.proofs.Calls.{no-first, no-second, no-room-for, written-from}
+use Rattle.number.specs.Answer.{write}
+use Rattle.number.proofs.Ways.{both, no-input, no-room, written}
 use Rattle.matrix.proofs.matrix_calls.transform_affine.Statement.{statement}
 use Rattle.matrix.proofs.matrix_calls.transform_affine.Tie as tie
 
-is : (a b out : List Float) → affineCall a b out ≡ writing (has 16 a && has 3 b) 3 (coordinates (affine (matrixOf a) (vec3Of b))) out
-unfolding affineCall
-is a b out = refl
-
-returns : tie.Need-returns
-returns c = no-first 16 3 3 _ _ is _ _ _ (c .if1 .taken)
-
-returns-2 : tie.Need-returns-2
-returns-2 c = no-second 16 3 3 _ _ is _ _ _ (c .before .if1 .left) (c .if2 .taken)
-
-returns-3 : tie.Need-returns-3
-returns-3 c = no-room-for 16 3 3 _ _ is _ _ _ (c .before .before .if1 .left) (c .before .if2 .left) (c .if3 .taken)
-
-same-length : tie.Need-same-length
-same-length c = search needs
-
 returns-4 : tie.Need-returns-4
+unfolding affineCall
 returns-4 c =
     let stored = c .before .before in
     let made = stored .before .before in
     let second = made .before in
     let first = second .before in
     let tests = first .before in
-    written-from 16 3 3 _ _ is _ _ _ _ _ _ (tests .before .before .if1 .left) (tests .before .if2 .left) (tests .if3 .left)
-    (stored .store .ensures) refl (ap coordinates (made .transform-affine .ensures ∙ ap₂ affine (first .load .ensures) (second .load2 .ensures))) refl
+    written _ _ _ _ _ _ (both (eq-eqb _ _ (tests .before .before .if1 .left)) (eq-eqb _ _ (tests .before .if2 .left))) (tests .if3 .left) refl (stored .store .ensures)
+    (ap write (ap coordinates (made .transform-affine .ensures ∙ ap₂ affine (first .load .ensures) (second .load2 .ensures))))
 
 pub transform-affine-spec : {M : Type 1} → statement M
+unfolding affineCall
 transform-affine-spec =
-    tie.close (tie.spec returns returns-2 returns-3 (λ c κs. tt) (λ c κs. tt) (λ c κs. tt) (λ c κs. tt) same-length returns-4)
+    tie.close
+    (tie.spec
+    (λ c. no-input _ _ _ _ (both (ne-eqb _ _ (c .if1 .taken)) refl))
+    (λ c. no-input _ _ _ _ (both (eq-eqb _ _ (c .before .if1 .left)) (ne-eqb _ _ (c .if2 .taken))))
+    (λ c. no-room _ _ _ _ (both (eq-eqb _ _ (c .before .before .if1 .left)) (eq-eqb _ _ (c .before .if2 .left))) (c .if3 .taken))
+    (λ c κs. tt) (λ c κs. tt) (λ c κs. tt) (λ c κs. tt) (λ c. search needs) returns-4)

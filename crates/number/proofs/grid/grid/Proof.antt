@@ -4,6 +4,7 @@ use mathlib.Core.List.{List, [], _∷_}
 use Prim.Native.Nat.{ℕ}
 use native.Mathlib.Omega.{arith}
 use borrow.Author.Needs.{needs}
+use borrow.Author.Tests.{eq-eqb, ne-eqb}
 use lib.IntN.{ℤ}
 use lib.ListN.{length}
 use lib.Ieee.{Float, binary64, ofInt}
@@ -15,7 +16,7 @@ use Rattle.number.specs.Grid.{centimetres, placed, coordinates, gridNumb
 use Rattle.number.specs.Slice.{at, stored}
 use Rattle.number.specs.declared.grid.Coordinate.{Coordinate}
 use Rattle.number.specs.declared.grid.Coordinate.the-variants.{On, Off}
-use Rattle.number.proofs.Refusals.{has-yes, has-no, stops, passes}
+use Rattle.number.proofs.Ways.{stops, passes}
 use Rattle.number.proofs.Stores.{same-room}
 use Rattle.number.proofs.grid.grid.Statement.{statement}
 use Rattle.number.proofs.grid.grid.Tie as tie
@@ -29,11 +30,11 @@ unfolding gridCall leaving
 call-is p out = refl
 
 no-input : (p out : List Float) → (length p ≡ 3 → ⊥) → refuse 1 out ≡ gridCall p out
-no-input p out n = stops (has 3 p) (refuse 1 out) _ (has-no 3 p n) ∙ sym (call-is p out)
+no-input p out n = stops (has 3 p) (refuse 1 out) _ (ne-eqb _ _ n) ∙ sym (call-is p out)
 
 no-room : (p out : List Float) → length p ≡ 3 → (length out ≡ 3 → ⊥) → refuse 2 out ≡ gridCall p out
 no-room p out e n =
-    passes (has 3 p) (refuse 1 out) _ (refuse 2 out) (has-yes 3 p e) (stops (has 3 out) (refuse 2 out) _ (has-no 3 out n)) ∙ sym (call-is p out)
+    passes (has 3 p) (refuse 1 out) _ (refuse 2 out) (eq-eqb _ _ e) (stops (has 3 out) (refuse 2 out) _ (ne-eqb _ _ n)) ∙ sym (call-is p out)
 
 whole-at : List Float → ℕ → Coordinate
 whole-at p i = placed (centimetres (at p i))
@@ -54,8 +55,8 @@ three (x ∷ y ∷ z ∷ u ∷ p) e = absurd (omega arith)
 module _ (p out : List Float) (e : length p ≡ 3) (f : length out ≡ 3) where
   all : (a b c : Coordinate) → whole-at p 0 ≡ a → whole-at p 1 ≡ b → whole-at p 2 ≡ c → decided (a ∷ b ∷ c ∷ []) out ≡ gridCall p out
   all a b c k l m =
-      passes (has 3 p) (refuse 1 out) _ _ (has-yes 3 p e)
-      (passes (has 3 out) (refuse 2 out) _ _ (has-yes 3 out f) (ap (λ (cs : List Coordinate). decided cs out) (sym (three p e ∙ same))))
+      passes (has 3 p) (refuse 1 out) _ _ (eq-eqb _ _ e)
+      (passes (has 3 out) (refuse 2 out) _ _ (eq-eqb _ _ f) (ap (λ (cs : List Coordinate). decided cs out) (sym (three p e ∙ same))))
       ∙ sym (call-is p out)
     where
       same : _≡_ {A = List Coordinate} (whole-at p 0 ∷ whole-at p 1 ∷ whole-at p 2 ∷ []) (a ∷ b ∷ c ∷ [])

@@ -1,8 +1,8 @@
 -- `frustum_calls::intersects_bbox` meets its contract: the length, the volume and the flag by their tests, the result by what it calls. Assumes nothing.
 use mathlib.Core.Path.{sym, ap, _∙_}
 use borrow.Author.Needs.{needs}
+use borrow.Author.Tests.{eq-eqb, ne-eqb}
 use Rattle.number.specs.Answer.{result}
-use Rattle.number.proofs.Refusals.{has-yes, has-no}
 use Rattle.verdict.specs.View.{heldOf}
 use Rattle.verdict.specs.Frustum.{boxInView}
 use Rattle.verdict.proofs.Flags.{no-flag, is-flag}
@@ -13,7 +13,7 @@ use Rattle.verdict.proofs.frustum_calls.intersects_bbox.Statement.{stat
 use Rattle.verdict.proofs.frustum_calls.intersects_bbox.Tie as tie
 
 returns : tie.Need-returns
-returns c = let a = c .before .before .before .args in wrong-length _ _ _ _ (one-input 23 (a .bbox .now) ∙ has-no 23 (a .bbox .now) (c .if1 .taken)) ∙ box-call (a .volume .now) (a .bbox .now)
+returns c = let a = c .before .before .before .args in wrong-length _ _ _ _ (one-input 23 (a .bbox .now) ∙ ne-eqb _ _ (c .if1 .taken)) ∙ box-call (a .volume .now) (a .bbox .now)
 
 returns-2 : tie.Need-returns-2
 returns-2 c =
@@ -21,7 +21,7 @@ returns-2 c =
     let known = f .before .before .before in
     let counted = known .before .before in
     let a = counted .before .before .before .before .args in
-    not-flagged _ _ _ _ (one-input 23 (a .bbox .now) ∙ has-yes 23 (a .bbox .now) (counted .before .if1 .left)) _ (ap heldOf (sym (known .count .given .1)) ∙ counted .planes-held .ensures)
+    not-flagged _ _ _ _ (one-input 23 (a .bbox .now) ∙ eq-eqb _ _ (counted .before .if1 .left)) _ (ap heldOf (sym (known .count .given .1)) ∙ counted .planes-held .ensures)
     (no-flag (a .bbox .now) _ _ (f .before .at .ensures) (f .is-flag .ensures) (c .if2 .taken))
     ∙ box-call (a .volume .now) (a .bbox .now)
 
@@ -42,7 +42,7 @@ returns-3 c =
     let known = f .before .before .before in
     let counted = known .before .before in
     let a = counted .before .before .before .before .args in
-    answered _ _ _ _ (one-input 23 (a .bbox .now) ∙ has-yes 23 (a .bbox .now) (counted .before .if1 .left)) _ _ (ap heldOf (sym (known .count .given .1)) ∙ counted .planes-held .ensures)
+    answered _ _ _ _ (one-input 23 (a .bbox .now) ∙ eq-eqb _ _ (counted .before .if1 .left)) _ _ (ap heldOf (sym (known .count .given .1)) ∙ counted .planes-held .ensures)
     (is-flag (a .bbox .now) _ _ (f .before .at .ensures) (f .is-flag .ensures) (e .if2 .left))
     (c .of .ensures ∙ ap result (view .intersects-bbox .ensures ∙ ap (boxInView _) (box .load .ensures)))
     ∙ box-call (a .volume .now) (a .bbox .now)
@@ -52,7 +52,7 @@ returns-4 c =
     let known = c .before in
     let counted = known .before .before in
     let a = counted .before .before .before .before .args in
-    not-held _ _ _ _ (one-input 23 (a .bbox .now) ∙ has-yes 23 (a .bbox .now) (counted .before .if1 .left)) _ (ap heldOf (sym (known .refusal .given .1)) ∙ counted .planes-held .ensures)
+    not-held _ _ _ _ (one-input 23 (a .bbox .now) ∙ eq-eqb _ _ (counted .before .if1 .left)) _ (ap heldOf (sym (known .refusal .given .1)) ∙ counted .planes-held .ensures)
     ∙ box-call (a .volume .now) (a .bbox .now)
 
 pub intersects-bbox-spec : {M : Type 1} → statement M

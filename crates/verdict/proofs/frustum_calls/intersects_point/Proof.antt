@@ -1,8 +1,8 @@
 -- `frustum_calls::intersects_point` meets its contract: the length and the volume by their tests, the result by what it calls. Assumes nothing.
 use mathlib.Core.Path.{refl, sym, ap, _∙_}
 use borrow.Author.Needs.{needs}
+use borrow.Author.Tests.{eq-eqb, ne-eqb}
 use Rattle.number.specs.Answer.{result}
-use Rattle.number.proofs.Refusals.{has-yes, has-no}
 use Rattle.verdict.specs.View.{heldOf}
 use Rattle.verdict.specs.Frustum.{pointInView}
 use Rattle.verdict.proofs.PlanesHeld.{held, has-planes}
@@ -12,7 +12,7 @@ use Rattle.verdict.proofs.frustum_calls.intersects_point.Statement.{sta
 use Rattle.verdict.proofs.frustum_calls.intersects_point.Tie as tie
 
 returns : tie.Need-returns
-returns c = let a = c .before .before .before .args in wrong-length _ _ _ _ (one-input 3 (a .p .now) ∙ has-no 3 (a .p .now) (c .if1 .taken)) ∙ point-call (a .volume .now) (a .p .now)
+returns c = let a = c .before .before .before .args in wrong-length _ _ _ _ (one-input 3 (a .p .now) ∙ ne-eqb _ _ (c .if1 .taken)) ∙ point-call (a .volume .now) (a .p .now)
 
 intersects-point-requires : tie.Need-intersects-point-requires
 intersects-point-requires c κs =
@@ -26,7 +26,7 @@ returns-2 c =
     let known = point .before .before in
     let counted = known .before .before in
     let a = counted .before .before .before .before .args in
-    answered _ _ _ _ (one-input 3 (a .p .now) ∙ has-yes 3 (a .p .now) (counted .before .if1 .left)) _ _ (ap heldOf (sym (known .count .given .1)) ∙ counted .planes-held .ensures) refl
+    answered _ _ _ _ (one-input 3 (a .p .now) ∙ eq-eqb _ _ (counted .before .if1 .left)) _ _ (ap heldOf (sym (known .count .given .1)) ∙ counted .planes-held .ensures) refl
     (c .of .ensures ∙ ap result (asked .intersects-point .ensures ∙ ap (pointInView _) (point .load .ensures)))
     ∙ point-call (a .volume .now) (a .p .now)
 
@@ -35,7 +35,7 @@ returns-3 c =
     let known = c .before in
     let counted = known .before .before in
     let a = counted .before .before .before .before .args in
-    not-held _ _ _ _ (one-input 3 (a .p .now) ∙ has-yes 3 (a .p .now) (counted .before .if1 .left)) _ (ap heldOf (sym (known .refusal .given .1)) ∙ counted .planes-held .ensures)
+    not-held _ _ _ _ (one-input 3 (a .p .now) ∙ eq-eqb _ _ (counted .before .if1 .left)) _ (ap heldOf (sym (known .refusal .given .1)) ∙ counted .planes-held .ensures)
     ∙ point-call (a .volume .now) (a .p .now)
 
 pub intersects-point-spec : {M : Type 1} → statement M

@@ -1,11 +1,11 @@
 -- `frustum_calls::intersects_view_volume` meets its contract: the lengths and the flag by its tests, the result by what it calls. Assumes nothing.
 use mathlib.Core.Path.{refl, ap, ap₂, _∙_}
 use borrow.Author.Needs.{needs}
+use borrow.Author.Tests.{eq-eqb, ne-eqb}
 use Rattle.number.specs.Answer.{result, has}
-use Rattle.number.proofs.Refusals.{has-yes, has-no}
+use Rattle.number.proofs.Ways.{both}
 use Rattle.verdict.specs.Frustum.{boxInViewVolume}
 use Rattle.verdict.proofs.Flags.{no-flag, is-flag}
-use Rattle.verdict.proofs.Same.{both}
 use Rattle.verdict.proofs.VerdictChecks.{two-inputs, wrong-length, not-flagged, answered}
 use Rattle.verdict.proofs.VerdictCalls.{clip-call}
 use Rattle.verdict.proofs.frustum_calls.intersects_view_volume.Statement.{statement}
@@ -14,19 +14,19 @@ use Rattle.verdict.proofs.frustum_calls.intersects_view_volume.Tie as t
 returns : tie.Need-returns
 returns c =
     let a = c .before .before .before .args in
-    wrong-length _ _ _ _ (two-inputs 23 (a .b .now) 16 (a .m .now) ∙ both {b = has 16 (a .m .now)} (has-no 23 (a .b .now) (c .if1 .taken)) refl) ∙ clip-call (a .b .now) (a .m .now)
+    wrong-length _ _ _ _ (two-inputs 23 (a .b .now) 16 (a .m .now) ∙ both {b = has 16 (a .m .now)} (ne-eqb _ _ (c .if1 .taken)) refl) ∙ clip-call (a .b .now) (a .m .now)
 
 returns-2 : tie.Need-returns-2
 returns-2 c =
     let a = c .before .before .before .before .args in
-    wrong-length _ _ _ _ (two-inputs 23 (a .b .now) 16 (a .m .now) ∙ both (has-yes 23 (a .b .now) (c .before .if1 .left)) (has-no 16 (a .m .now) (c .if2 .taken))) ∙ clip-call (a .b .now) (a .m .now)
+    wrong-length _ _ _ _ (two-inputs 23 (a .b .now) 16 (a .m .now) ∙ both (eq-eqb _ _ (c .before .if1 .left)) (ne-eqb _ _ (c .if2 .taken))) ∙ clip-call (a .b .now) (a .m .now)
 
 returns-3 : tie.Need-returns-3
 returns-3 c =
     let f = c .before in
     let tests = f .before .before in
     let a = tests .before .before .before .before .args in
-    not-flagged _ _ _ _ (two-inputs 23 (a .b .now) 16 (a .m .now) ∙ both (has-yes 23 (a .b .now) (tests .before .if1 .left)) (has-yes 16 (a .m .now) (tests .if2 .left))) _ refl
+    not-flagged _ _ _ _ (two-inputs 23 (a .b .now) 16 (a .m .now) ∙ both (eq-eqb _ _ (tests .before .if1 .left)) (eq-eqb _ _ (tests .if2 .left))) _ refl
     (no-flag (a .b .now) _ _ (f .before .at .ensures) (f .is-flag .ensures) (c .if3 .taken))
     ∙ clip-call (a .b .now) (a .m .now)
 
@@ -39,7 +39,7 @@ returns-4 c =
     let f = e .before in
     let tests = f .before .before in
     let a = tests .before .before .before .before .args in
-    answered _ _ _ _ (two-inputs 23 (a .b .now) 16 (a .m .now) ∙ both (has-yes 23 (a .b .now) (tests .before .if1 .left)) (has-yes 16 (a .m .now) (tests .if2 .left))) _ _ refl
+    answered _ _ _ _ (two-inputs 23 (a .b .now) 16 (a .m .now) ∙ both (eq-eqb _ _ (tests .before .if1 .left)) (eq-eqb _ _ (tests .if2 .left))) _ _ refl
     (is-flag (a .b .now) _ _ (f .before .at .ensures) (f .is-flag .ensures) (e .if3 .left))
     (c .of .ensures ∙ ap result (asked .intersects-view-volume .ensures ∙ ap₂ boxInViewVolume (l .load .ensures) (n .load2 .ensures)))
     ∙ clip-call (a .b .now) (a .m .now)

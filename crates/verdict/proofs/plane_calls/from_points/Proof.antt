@@ -6,8 +6,8 @@ use Rattle.number.specs.Answer.{write}
 use Rattle.verdict.specs.declared.plane.Plane.{Plane}
 use Rattle.verdict.specs.Plane.{numbers, fromPoints}
 use Rattle.verdict.specs.Calls.{fromPointsCall}
-use Rattle.number.proofs.Ways.{no-input, no-room, written}
-use Rattle.verdict.proofs.Same.{both, same-three}
+use Rattle.number.proofs.Ways.{both, no-input, no-room, written}
+use Rattle.verdict.proofs.Same.{same-three}
 use Rattle.verdict.proofs.plane_calls.from_points.Statement.{statement}
 use Rattle.verdict.proofs.plane_calls.from_points.Tie as tie
 

@@ -1,5 +1,5 @@
 -- `reach::holds_origin` meets its contract: axis by axis by that of `holds_zero`. Assumes nothing.
-use Rattle.verdict.proofs.Same.{both}
+use Rattle.number.proofs.Ways.{both}
 use Rattle.verdict.specs.Steps.Origin.{holdsOrigin}
 use Rattle.verdict.proofs.reach.holds_origin.Statement.{statement}
 use Rattle.verdict.proofs.reach.holds_origin.Tie as tie
