@@ -2,8 +2,8 @@
 -- sections and the same numbers in them. Assumes nothing.
 use mathlib.Core.Path.{_≡_, refl, sym, ap, _∙_}
 use mathlib.Core.Bool.{Bool, true, false, cond, _&&_}
-use mathlib.Core.List.{List, [], _∷_, map}
-use Prim.Native.Nat.{ℕ, zero, suc, _+_, _-_, _*_, _/_, _<_, _≤_, min}
+use mathlib.Core.List.{List, _∷_, map}
+use Prim.Native.Nat.{ℕ, zero, suc, _+_, _-_, _*_, _/_, _<_, _≤_}
 use native.Mathlib.Omega.{arith}
 use native.Mathlib.Nat.{mul-div-le}
 use borrow.Author.Tests.{leb-true}
@@ -20,7 +20,7 @@ use Rattle.verdict.specs.BBoxCalls.{flagged}
 use Rattle.verdict.specs.View.{volumeLength, wholePart, isCount, planesOf}
 use Rattle.verdict.specs.Frustum.{boxInView}
 use Rattle.farm.specs.declared.directory.Section.{Section}
-use Rattle.farm.specs.Directory.{sectionCount, sectionAt, sectionsFrom, volumeSection, boxSections, directoryEnd, endOf, numbersOf, inOrder, wellFormed}
+use Rattle.farm.specs.Directory.{sectionCount, sectionAt, sectionsFrom, volumeSection, boxSections, directoryEnd, numbersOf, inOrder, wellFormed}
 use Rattle.farm.specs.FarmFile.{volumeThere, countNumber, planeCount, sized, allFlagged, inView, checked, farmFile}
 use Rattle.farm.specs.Reading.{AgreeOutsideGaps, GapsUnread, AnsweredApart}
 use Rattle.farm.proofs.Placed.{at-least, placed, apart}

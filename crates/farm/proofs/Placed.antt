@@ -1,7 +1,7 @@
 -- What the checks of a file say of each section. Assumes nothing.
-use mathlib.Core.Path.{_≡_, refl, sym, ap, subst, _∙_}
-use mathlib.Core.Bool.{Bool, true, false, _&&_}
-use mathlib.Core.List.{List, [], _∷_}
+use mathlib.Core.Path.{_≡_, sym, ap, subst, _∙_}
+use mathlib.Core.Bool.{Bool, true, _&&_}
+use mathlib.Core.List.{List}
 use Prim.Native.Nat.{ℕ, zero, suc, _+_, _-_, _*_, _<_, _≤_}
 use native.Mathlib.Omega.{arith}
 use borrow.Author.Tests.{leb-true, eqb-true}
@@ -13,7 +13,7 @@ use Rattle.number.proofs.Tests.{both-hold}
 use Rattle.verdict.specs.View.{volumeLength}
 use Rattle.verdict.specs.BBoxCalls.{flagged}
 use Rattle.farm.specs.declared.directory.Section.{Section}
-use Rattle.farm.specs.Directory.{sectionCount, sectionAt, sectionsFrom, volumeSection, boxSections, directoryEnd, endOf, numbersOf, inOrder, wellFormed}
+use Rattle.farm.specs.Directory.{sectionCount, sectionAt, sectionsFrom, volumeSection, directoryEnd, endOf, numbersOf, inOrder, wellFormed}
 use Rattle.farm.specs.FarmFile.{planeCount, sized, allFlagged}
 
 -- ---- a test that all sections pass

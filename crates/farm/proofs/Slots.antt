@@ -1,11 +1,10 @@
 -- The slots of boxes, filled one after the other; a box's numbers and verdict by its section. Assumes nothing.
 use mathlib.Core.Path.{_≡_, refl, sym, ap, subst, _∙_}
 use mathlib.Core.Bool.{Bool}
-use mathlib.Core.List.{List, [], _∷_, _++_, map, map-append, append-assoc}
-use Prim.Native.Nat.{ℕ, suc, _+_, _-_, _*_, _/_, _<_, _≤_}
+use mathlib.Core.List.{List, [], _∷_, _++_, map, map-append}
+use Prim.Native.Nat.{ℕ, _+_, _-_, _*_, _/_, _<_, _≤_}
 use native.Mathlib.Omega.{arith}
-use lib.ListN.{length, length-append, length-map, length-replicate, replicate, set}
-use lib.Seq.{set-at}
+use lib.ListN.{length, length-map, replicate, set}
 use lib.Ieee.{Float}
 use Rattle.number.specs.Limits.{boxLength, fewestPlanes, mostPlanes}
 use Rattle.number.specs.Answer.{result}
@@ -26,32 +25,32 @@ use Rattle.farm.specs.Steps.{Ready}
 use Rattle.farm.proofs.SectionsLeft.{as-many as as-many-sections, last-section}
 use Rattle.farm.proofs.Placed.{at-least, placed, volume-sized, box-sized, box-flagged}
 
-pub none-judged : (n : ℕ) → n ≡ slotCount → replicate n unused ≡ slots []
-none-judged n e = none-filled slotCount n e
+pub none-answered : (n : ℕ) → n ≡ slotCount → replicate n unused ≡ slots []
+none-answered n e = none-filled slotCount n e
 
-one-judged : (vs : List Bool) (v : Bool) → length vs < slotCount → set (slots vs) (length vs) (slotOf v) ≡ slots (vs ++ (v ∷ []))
-one-judged vs v h =
+one-answered : (vs : List Bool) (v : Bool) → length vs < slotCount → set (slots vs) (length vs) (slotOf v) ≡ slots (vs ++ (v ∷ []))
+one-answered vs v h =
     let m = length-map vs slotOf in
     ap (λ (k : ℕ). set (slots vs) k (slotOf v)) (sym m) ∙ one-filled slotCount (map slotOf vs) (slotOf v) (omega (arith, m))
     ∙ ap (slotsOf slotCount) (sym (map-append slotOf vs (v ∷ [])))
 
 module _ (b : List ℕ) where
-  abbrev pub judged : ℕ → List Bool
-  judged n = map (inView b) (sectionsFrom b 1 n)
+  abbrev pub firstVerdicts : ℕ → List Bool
+  firstVerdicts n = map (inView b) (sectionsFrom b 1 n)
 
-  pub as-many-judged : (n : ℕ) → length (judged n) ≡ n
-  as-many-judged n = length-map (sectionsFrom b 1 n) (inView b) ∙ as-many-sections b 1 n
+  pub as-many-verdicts : (n : ℕ) → length (firstVerdicts n) ≡ n
+  as-many-verdicts n = length-map (sectionsFrom b 1 n) (inView b) ∙ as-many-sections b 1 n
 
-  pub next-judged : (n x : ℕ) (l : List ℕ) → n < slotCount → l ≡ slots (judged n) → x ≡ slotOf (inView b (sectionAt b (n + 1))) → set l n x ≡ slots (judged (n + 1))
-  next-judged n x l h e p =
-      let m = as-many-judged n in
+  pub next-verdict : (n x : ℕ) (l : List ℕ) → n < slotCount → l ≡ slots (firstVerdicts n) → x ≡ slotOf (inView b (sectionAt b (n + 1))) → set l n x ≡ slots (firstVerdicts (n + 1))
+  next-verdict n x l h e p =
+      let m = as-many-verdicts n in
       let v = inView b (sectionAt b (n + 1)) in
       let z : 1 + n ≡ n + 1 = omega arith in
-      ap (λ (t : List ℕ). set t n x) e ∙ ap (set (slots (judged n)) n) p ∙ ap (λ (k : ℕ). set (slots (judged n)) k (slotOf v)) (sym m)
-      ∙ one-judged (judged n) v (omega (arith, m))
+      ap (λ (t : List ℕ). set t n x) e ∙ ap (set (slots (firstVerdicts n)) n) p ∙ ap (λ (k : ℕ). set (slots (firstVerdicts n)) k (slotOf v)) (sym m)
+      ∙ one-answered (firstVerdicts n) v (omega (arith, m))
       ∙ ap slots
       (sym (ap (map (inView b)) (last-section b 1 n) ∙ map-append (inView b) (sectionsFrom b 1 n) (sectionAt b (1 + n) ∷ [])
-      ∙ ap (λ (k : ℕ). judged n ++ (inView b (sectionAt b k) ∷ [])) z))
+      ∙ ap (λ (k : ℕ). firstVerdicts n ++ (inView b (sectionAt b k) ∷ [])) z))
 
 -- ---- a file that has passed every check
 

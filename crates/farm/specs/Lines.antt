@@ -2,7 +2,7 @@
 -- A file is any list of bytes, whole numbers below 256; nothing is assumed of it.
 use Prim.Native.Nat.{ℕ, suc, _+_, _/_, _%_}
 use mathlib.Core.Bool.{Bool, cond}
-use mathlib.Core.List.{List, [], _∷_, _++_, map}
+use mathlib.Core.List.{List, [], _∷_, _++_}
 use lib.Dec.{eqb, ltb}
 use lib.ListN.{length, take, drop}
 use Rattle.number.specs.Answer.{Outcome, refused, result}

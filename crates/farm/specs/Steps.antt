@@ -9,8 +9,8 @@ use Rattle.farm.specs.Directory.{wellFormed}
 use Rattle.farm.specs.FarmFile.{countNumber, sized, allFlagged}
 
 -- how many planes a number says there are; 0 where it is no count
-abbrev pub saidBy : Float → ℕ
-saidBy x = cond (isCount x) (wholePart x) 0
+abbrev pub countOrZero : Float → ℕ
+countOrZero x = cond (isCount x) (wholePart x) 0
 
 -- it has passed every check
 pub record Ready (b : List ℕ) : Type 0 where

@@ -5,8 +5,8 @@ ghost use Rattle.farm.specs.FarmFile.{listing, farmFileCall};
 use crate::directory::is_well_formed;
 use crate::sections::are_flagged;
 use crate::sections::are_sized;
+use crate::sections::file_slots;
 use crate::sections::has_volume;
-use crate::sections::judge;
 use crate::sections::plane_count;
 use number::answer::Counted;
 use number::answer::Refusal;
@@ -43,6 +43,6 @@ pub fn farm_file(file: &[u8], out: &mut [u32]) -> Counted
     if !are_flagged(file) {
         return Counted::Refused(Refusal::Kind);
     }
-    judge(file, planes, out);
+    file_slots(file, planes, out);
     Counted::Count(word_32(file, 0) - 1)
 }

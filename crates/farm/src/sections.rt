@@ -11,7 +11,7 @@ ghost use Rattle.verdict.specs.FrustumCalls.{intersectsBoxCall};
 ghost use Rattle.verdict.specs.View.{volumeLength};
 ghost use Rattle.farm.specs.Directory.{wellFormed, volumeSection, boxSections, numbersOf};
 ghost use Rattle.farm.specs.FarmFile.{volumeThere, countNumber, planeCount, sized, allFlagged, inView, slotCount, slotFor, slots};
-ghost use Rattle.farm.specs.Steps.{Ready, saidBy};
+ghost use Rattle.farm.specs.Steps.{Ready, countOrZero};
 use crate::directory::section_at;
 use number::answer::Verdict;
 use number::bytes::load;
@@ -47,7 +47,7 @@ pub(crate) fn has_volume(file: &[u8]) -> bool
 
 // How many planes the number in front of the volume says there are; 0 where it is no count.
 pub(crate) fn plane_count(file: &[u8]) -> u32
-    ensures { λ r. ⌜ r ≡ saidBy (countNumber (now (file .entry))) ⌝ }
+    ensures { λ r. ⌜ r ≡ countOrZero (countNumber (now (file .entry))) ⌝ }
 {
     let start = section_at(file, 0).offset as usize;
     match plane_count_of(number_at(file, start)) {
@@ -105,7 +105,7 @@ fn slot(verdict: Verdict) -> u32
 }
 
 // The slot of the box that starts at a place.
-fn judged(volume: &[f64], file: &[u8], start: usize) -> u32
+fn box_slot(volume: &[f64], file: &[u8], start: usize) -> u32
     requires { ⌜ start + 8 * boxLength ≤ length (now file) ⌝ }
     ensures { λ r. ⌜ r ≡ slotFor (intersectsBoxCall (now (volume .entry)) (numbersAt (now (file .entry)) start boxLength)) ⌝ }
 {
@@ -115,7 +115,7 @@ fn judged(volume: &[f64], file: &[u8], start: usize) -> u32
 }
 
 // The slots of all boxes, by the numbers of the volume.
-fn judge_boxes(volume: &[f64], file: &[u8], out: &mut [u32])
+fn box_slots(volume: &[f64], file: &[u8], out: &mut [u32])
     requires { ⌜ Ready (now file) ⌝ }
     requires { ⌜ (now volume ≡ numbersOf (now file) (volumeSection (now file))) × (length (now out) ≡ slotCount) ⌝ }
     ensures { λ _. ⌜ now (out .exit) ≡ slots (map (inView (now (file .entry))) (boxSections (now (file .entry)))) ⌝ }
@@ -125,13 +125,13 @@ fn judge_boxes(volume: &[f64], file: &[u8], out: &mut [u32])
     let mut i: usize = 0;
     while i < boxes {
         let start = section_at(file, i + 1).offset as usize;
-        out[i] = judged(volume, file, start);
+        out[i] = box_slot(volume, file, start);
         i += 1;
     }
 }
 
 // The slots of all boxes of a file with so many planes, by the volume's numbers in front of a room.
-fn judge_in(room: &mut [f64], file: &[u8], planes: u32, out: &mut [u32])
+fn box_slots_in(room: &mut [f64], file: &[u8], planes: u32, out: &mut [u32])
     requires { ⌜ Ready (now file) ⌝ }
     requires { ⌜ (planes ≡ planeCount (now file)) × (volumeLength mostPlanes ≤ length (now room)) × (length (now out) ≡ slotCount) ⌝ }
     ensures { λ _. ⌜ now (out .exit) ≡ slots (map (inView (now (file .entry))) (boxSections (now (file .entry)))) ⌝ }
@@ -139,16 +139,16 @@ fn judge_in(room: &mut [f64], file: &[u8], planes: u32, out: &mut [u32])
     let size = volume_length(planes);
     let start = section_at(file, 0).offset as usize;
     load(file, start, &mut room[..size]);
-    judge_boxes(&room[..size], file, out);
+    box_slots(&room[..size], file, out);
 }
 
 // The slots of all boxes of a file with so many planes.
-pub(crate) fn judge(file: &[u8], planes: u32, out: &mut [u32])
+pub(crate) fn file_slots(file: &[u8], planes: u32, out: &mut [u32])
     requires { ⌜ Ready (now file) ⌝ }
     requires { ⌜ (planes ≡ planeCount (now file)) × (length (now out) ≡ slotCount) ⌝ }
     ensures { λ _. ⌜ now (out .exit) ≡ slots (map (inView (now (file .entry))) (boxSections (now (file .entry)))) ⌝ }
 {
     // room for the most planes
     let mut room = [0.0f64; 153];
-    judge_in(&mut room, file, planes, out);
+    box_slots_in(&mut room, file, planes, out);
 }

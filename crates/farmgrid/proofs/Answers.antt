@@ -14,7 +14,7 @@ use Rattle.matrix.specs.Vec.{vec3Of, coordinates}
 use Rattle.matrix.specs.Matrix.{matrixOf}
 use Rattle.matrix.specs.Range.{bounds}
 use Rattle.matrix.specs.Transform.{transformed}
-use Rattle.matrix.specs.Calls.{transformCall}
+use Rattle.matrix.specs.MatrixCalls.{transformCall}
 use Rattle.verdict.specs.BBox.{boxOf, numbers, transformedBox, alignedRange}
 use Rattle.verdict.specs.BBoxCalls.{flagged, transformBoxCall, alignedRangeCall}
 use Rattle.verdict.specs.declared.plane.Plane.{Plane}

@@ -12,7 +12,7 @@ use lib.IntN.{ℤ, pos, _-ℤ_, _*ℤ_}
 use lib.Signed.{_≤ℤ_}
 use Rattle.farmgrid.proofs.Integer.{hi, lo, of-self as self, of-pos, of-neg, of-le, of-min, of-max, le-is}
 use Rattle.farmgrid.specs.Placement.{smaller, larger}
-use Rattle.farmgrid.proofs.Signs.{_⊟_, _⊠_, flip}
+use Rattle.farmgrid.proofs.WholeSigns.{_⊟_, _⊠_, flip}
 use Rattle.farmgrid.proofs.Singles.{Single, single, single-dot}
 use Rattle.farmgrid.proofs.PlacedRanges.{placed-nonempty}
 use Rattle.verdict.specs.declared.plane.Plane.{Plane}

@@ -27,7 +27,7 @@ use Rattle.matrix.specs.declared.vec.Vec3d.{Vec3d}
 use Rattle.matrix.specs.declared.vec.Vec4d.{Vec4d}
 use Rattle.matrix.specs.declared.inverse.Inverted.{Inverted}
 use Rattle.farmgrid.specs.Placement.{WholeVec, WholeVec4, WholeRange, WholeMatrix, Within, NonEmpty, Placement, dotℤ, dot4ℤ, sizes}
-use Rattle.farmgrid.proofs.Signs.{_⊞_, _⊟_, _⊠_, abs-flip}
+use Rattle.farmgrid.proofs.WholeSigns.{_⊞_, _⊟_, _⊠_, abs-flip}
 use Rattle.farmgrid.proofs.Singles.{three, four, single, single-dot}
 use Rattle.farmgrid.proofs.QuarterTurns.{widen, widen-placement}
 use Rattle.farmgrid.proofs.WholeSums.{zero-whole, one-whole, axis-fit, dot-fit, whole-vec3}

@@ -11,7 +11,7 @@ use lib.Signed.{nonNeg, _≤ℤ_}
 use Rattle.number.specs.Grid.{signed}
 use Rattle.farmgrid.proofs.Integer.{of-self as self, of-pos, of-neg, of-eq, of-le, le-is, max-left, max-right, max-shift, neg-min}
 use Rattle.farmgrid.specs.Placement.{NonEmpty, QuarterTurn, PlacementWithin, dotℤ, turnedℤ, movedℤ, sizes, smaller, larger}
-use Rattle.farmgrid.proofs.Signs.{_⊞_, _⊟_, flip, abs-flip}
+use Rattle.farmgrid.proofs.WholeSigns.{_⊞_, _⊟_, flip, abs-flip}
 use Rattle.farmgrid.proofs.Singles.{Single, single, single-dot, unit-own}
 use Rattle.farmgrid.proofs.WholeRanges.{placed-low, placed-high}
 use Rattle.farmgrid.specs.FarmGrid.{WholePlane, WholeBox, lowOf, highOf}

@@ -11,7 +11,7 @@ use Rattle.farmgrid.proofs.Integer.{by-test, of-self as self, of-pos, o
 use Rattle.matrix.specs.Inverse.{without}
 use Rattle.farmgrid.specs.Placement.{PlacementWithin}
 use Rattle.farmgrid.specs.Placement.{dotℤ, dot4ℤ}
-use Rattle.farmgrid.proofs.Signs.{_⊞_, _⊟_, _⊠_, flip, flip-one, flip-zero, flip-neg, dot-flip, plus-zero}
+use Rattle.farmgrid.proofs.WholeSigns.{_⊞_, _⊟_, _⊠_, flip, flip-one, flip-zero, flip-neg, dot-flip, plus-zero}
 use Rattle.farmgrid.proofs.Singles.{three, four, same-dot}
 use Rattle.farmgrid.proofs.InversePlacements.{inverseℤ, inverse-upper, inverse-last}
 use Rattle.farmgrid.proofs.TurnDeterminants.{plusℤ, expandedℤ, cofactorℤ, odd, minor, cofactor3, mirrored, determinants-are, cofactor3-is}

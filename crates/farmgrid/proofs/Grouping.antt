@@ -13,7 +13,7 @@ use Rattle.verdict.specs.declared.bbox.BBox3d.{BBox3d}
 use Rattle.group.specs.Group.{combinedWith, grouped, groupCall}
 use Rattle.group.proofs.Repeated.{AllGood}
 use Rattle.farmgrid.specs.Records.{Accepted}
-use Rattle.farmgrid.specs.Grouping.{joined, Taken, nothing as none-taken, also as also-taken, Group}
+use Rattle.farmgrid.specs.Grouping.{concatenated, Taken, nothing as none-taken, also as also-taken, Group}
 use Rattle.farmgrid.proofs.Extents.{Extent, join, join-assoc, over}
 use Rattle.farmgrid.proofs.CombinedBoxes.{Holds, combined-holds}
 use Rattle.farmgrid.proofs.CombinedRecords.{Stands, written}
@@ -89,13 +89,13 @@ module _ {group ss rest : List (List Float)} {f : Extent → Extent} (G : Group 
   left : Joined group (own .owns)
   left = joined-of (G .some) (own .stands)
 
-  writes : groupCall (joined group) out ≡ write (grouped group)
+  writes : groupCall (concatenated group) out ≡ write (grouped group)
   writes = group-writes group (all-good (own .stands)) (G .some) (G .most) out room
 
-  pub group-call : Accepted (groupCall (joined group) out) (λ s. length s ≡ boxLength)
+  pub group-call : Accepted (groupCall (concatenated group) out) (λ s. length s ≡ boxLength)
   group-call = subst (λ (r : Reply Float). Accepted r (λ s. length s ≡ boxLength)) (sym writes) (record { status = refl; left = left .stands .numbers })
 
-  pub group-total : Total (groupCall (joined group) out .out ∷ rest) f
+  pub group-total : Total (groupCall (concatenated group) out .out ∷ rest) f
   group-total = record {
     extents = left .extent ∷ own .others;
     stand = also (subst (λ (r : Reply Float). Stands (r .out) (left .extent)) (sym writes) (left .stands)) (own .stand);

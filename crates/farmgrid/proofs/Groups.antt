@@ -12,23 +12,23 @@ use Rattle.number.specs.Limits.{boxLength, mostBoxes}
 use Rattle.number.specs.Answer.{write}
 use Rattle.group.specs.Group.{records, boxCount, recordsOf, grouped, isGroup, isWhole, allFlagged, groupCall}
 use Rattle.group.proofs.Repeated.{AllGood}
-use Rattle.farmgrid.specs.Grouping.{joined}
+use Rattle.farmgrid.specs.Grouping.{concatenated}
 
-joined-length : (ss : List (List Float)) → AllGood ss → length (joined ss) ≡ length ss * boxLength
-joined-length [] g = refl
-joined-length (s ∷ ss) g =
-    let e = length-append s (joined ss) in
-    let f = joined-length ss (g .1) in
+concatenated-length : (ss : List (List Float)) → AllGood ss → length (concatenated ss) ≡ length ss * boxLength
+concatenated-length [] g = refl
+concatenated-length (s ∷ ss) g =
+    let e = length-append s (concatenated ss) in
+    let f = concatenated-length ss (g .1) in
     let l = g .0 .numbers in
     omega arith
 
 -- they are its records
-records-joined : (ss : List (List Float)) → AllGood ss → records (length ss) (joined ss) ≡ ss
+records-joined : (ss : List (List Float)) → AllGood ss → records (length ss) (concatenated ss) ≡ ss
 unfolding records
 records-joined [] g = refl
 records-joined (s ∷ ss) g =
     let l = g .0 .numbers in
-    (λ i. take-at s (joined ss) boxLength l i ∷ records (length ss) (drop-at s (joined ss) boxLength l i))
+    (λ i. take-at s (concatenated ss) boxLength l i ∷ records (length ss) (drop-at s (concatenated ss) boxLength l i))
     ∙ ap (λ (ts : List (List Float)). s ∷ ts) (records-joined ss (g .1))
 
 all-flagged : (ss : List (List Float)) → AllGood ss → allFlagged ss ≡ true
@@ -37,20 +37,20 @@ all-flagged [] g = refl
 all-flagged (s ∷ ss) g = λ i. g .0 .flag i && all-flagged ss (g .1) i
 
 module _ (ss : List (List Float)) (g : AllGood ss) (some : 1 ≤ length ss) (most : length ss ≤ mostBoxes) where
-  size : length (joined ss) ≡ length ss * boxLength
-  size = joined-length ss g
+  size : length (concatenated ss) ≡ length ss * boxLength
+  size = concatenated-length ss g
 
-  pub records-are : recordsOf (joined ss) ≡ ss
+  pub records-are : recordsOf (concatenated ss) ≡ ss
   records-are =
-      let e : boxCount (joined ss) ≡ length ss = omega (arith, size) in
-      ap (λ (n : ℕ). records n (joined ss)) e ∙ records-joined ss g
+      let e : boxCount (concatenated ss) ≡ length ss = omega (arith, size) in
+      ap (λ (n : ℕ). records n (concatenated ss)) e ∙ records-joined ss g
 
-  group : isGroup (joined ss) ≡ true
-  group i = lt-ltb 0 (length (joined ss)) (omega (arith, size)) i && le-leb (length (joined ss)) (mostBoxes * boxLength) (omega (arith, size)) i
+  group : isGroup (concatenated ss) ≡ true
+  group i = lt-ltb 0 (length (concatenated ss)) (omega (arith, size)) i && le-leb (length (concatenated ss)) (mostBoxes * boxLength) (omega (arith, size)) i
 
-  whole : isWhole (joined ss) ≡ true
-  whole = eq-eqb (length (joined ss) % boxLength) 0 (omega (arith, size))
+  whole : isWhole (concatenated ss) ≡ true
+  whole = eq-eqb (length (concatenated ss) % boxLength) 0 (omega (arith, size))
 
-  pub group-writes : (out : List Float) → length out ≡ boxLength → groupCall (joined ss) out ≡ write (grouped ss)
+  pub group-writes : (out : List Float) → length out ≡ boxLength → groupCall (concatenated ss) out ≡ write (grouped ss)
   unfolding groupCall
   group-writes out room = rw (group, whole, eq-eqb _ _ room, records-are, all-flagged ss g)

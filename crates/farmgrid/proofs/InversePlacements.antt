@@ -11,7 +11,7 @@ use Rattle.farmgrid.proofs.Integer.{by-test, of-self as self, of-neg, o
 use Rattle.farmgrid.proofs.Exact.{abs-signed}
 use Rattle.farmgrid.specs.Placement.{QuarterTurn, PlacementWithin}
 use Rattle.farmgrid.specs.Placement.{dotℤ, columnℤ, turnedℤ, movedℤ}
-use Rattle.farmgrid.proofs.Signs.{_⊞_, flip}
+use Rattle.farmgrid.proofs.WholeSigns.{_⊞_, flip}
 use Rattle.farmgrid.proofs.Singles.{three, Single, unit-own, same-dot, dot-single}
 use Rattle.farmgrid.proofs.QuarterTurns.{transposeℤ, source, target, turned-within, moved-is, same-sizes}
 

@@ -7,7 +7,7 @@ use native.Mathlib.Omega.{arith}
 use mathlib.Core.Bool.{Bool, true, false, not, cond}
 use lib.Dec.{T, eqb, ltb, lit<, lit≤}
 use lib.IntN.{ℤ, pos, _*ℤ_}
-use lib.Ieee.{Float, binary64, lt, round}
+use lib.Ieee.{Float, binary64, lt}
 use lib.Ieee.Fits.{add-fits}
 use Rattle.number.specs.Answer.{unless}
 use Rattle.number.specs.Arithmetic.{_⊗_, _⊘_, absOf}
@@ -20,17 +20,17 @@ use Rattle.farmgrid.proofs.Formula.{Fit, fit-sum, fit-minus, fit-times,
 use Rattle.matrix.specs.declared.matrix.Mat4d.{Mat4d}
 use Rattle.matrix.specs.declared.inverse.Inverted.{Inverted}
 use Rattle.matrix.specs.declared.inverse.Inverted.the-variants.{Matrix, Singular}
-use Rattle.matrix.specs.Constants.{one, singularDeterminant}
-use Rattle.matrix.specs.Matrix.{entry, determinant3}
+use Rattle.matrix.specs.Constants.{one}
+use Rattle.matrix.specs.Matrix.{entry}
 use Rattle.matrix.specs.Inverse.{turned, plus, expanded, without, cofactor, adjugate, determinant, scaled, inverseAbove}
 use Rattle.farmgrid.specs.Placement.{WholeMatrix, PlacementWithin}
 use Rattle.farmgrid.proofs.QuarterTurns.{upper-size}
 use Rattle.farmgrid.proofs.InversePlacements.{inverseℤ}
-use Rattle.farmgrid.proofs.TurnDeterminants.{plusℤ, expandedℤ, cofactorℤ, mirrored, determinant-is}
+use Rattle.farmgrid.proofs.TurnDeterminants.{plusℤ, expandedℤ, cofactorℤ, mirrored}
 use Rattle.farmgrid.proofs.Cofactors.{cofactor-is, first-row-is}
 use Rattle.farmgrid.proofs.WholeSums.{over-unit, entry-matrix, whole-matrix, dot4-fit}
-use Rattle.farmgrid.proofs.WholePlacements.{wide, entry-fit, determinant3-whole}
-use Rattle.farmgrid.proofs.Signs.{flip, flip-flip}
+use Rattle.farmgrid.proofs.WholePlacements.{wide, entry-fit}
+use Rattle.farmgrid.proofs.WholeSigns.{flip, flip-flip}
 use Rattle.farmgrid.proofs.Units.{is-one}
 
 -- ---- a cofactor
@@ -71,11 +71,6 @@ pub record WholeInverse (answer : Inverted) (g : ℕ → ℕ → ℤ) : Type 0 w
   pub accepted : answer ≡ Matrix matrix
   pub numbers : WholeMatrix matrix g
 
--- "1e-12 for `inverse`"
-pub singular-below-one : T (lt singularDeterminant one)
-unfolding lt round
-singular-below-one = tt
-
 module _ {m : Mat4d} {f : ℕ → ℕ → ℤ} (M : WholeMatrix m f) (F : PlacementWithin wide f) where
   -- its first three rows
   upper-fit : (i j : ℕ) → i < 3 → j < 4 → Fit (entry m i j) (f i j) 1
@@ -91,10 +86,6 @@ module _ {m : Mat4d} {f : ℕ → ℕ → ℤ} (M : WholeMatrix m f) (F : Placem
   unfolding determinant
   determinant-whole = subst (Whole (determinant m)) (first-row-is F)
       (dot4-fit (lit≤ tt) (entry m 0) (cofactor m 0) (f 0) (cofactorℤ f 0) (λ j h. upper-fit 0 j (lit< tt) h) (λ j h. cofactor-fit 0 j) .whole)
-
-  -- the same for the upper three by three, of which volumes are told
-  pub determinant3-unit : Whole (determinant3 m) (signed (mirrored f) 1)
-  determinant3-unit = subst (Whole (determinant3 m)) (determinant-is (F .turn)) (determinant3-whole M F)
 
   determinant-one : absOf (determinant m) ≡ one
   unfolding determinant

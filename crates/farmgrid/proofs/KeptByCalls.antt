@@ -12,7 +12,7 @@ use Rattle.group.specs.Group.{groupCall}
 use Rattle.group.specs.Repeated.{LeftToRight, none as no-call, call}
 use Rattle.group.proofs.Repeated.{Good, AllGood, group-is-repeated}
 use Rattle.farmgrid.specs.Combining.{Picked, first, later}
-use Rattle.farmgrid.specs.Grouping.{joined, Taken, nothing, also, Mixed, none, combine, group, EachRecord}
+use Rattle.farmgrid.specs.Grouping.{concatenated, Taken, nothing, also, Mixed, none, combine, group, EachRecord}
 use Rattle.farmgrid.proofs.Groups.{records-are, group-writes}
 
 module _ (K : List Float → Type 0) where
@@ -42,12 +42,12 @@ module _ (K : List Float → Type 0) where
     repeated-keeps (call {a = a} {b = b} out room r) g = repeated-keeps r (keeps a b (g .0) (g .1 .0) out room, g .1 .1)
 
     group-keeps : (members : List (List Float)) → EachRecord K members → 1 ≤ length members → length members ≤ mostBoxes → (out : List Float) → length out ≡ boxLength
-        → K (groupCall (joined members) out .out)
+        → K (groupCall (concatenated members) out .out)
     group-keeps members k some most out room =
         let g = all-good members k in
-        let r = group-is-repeated (joined members) out (ap (λ (x : Reply Float). x .status) (group-writes members g some most out room)) in
-        let l : LeftToRight members (groupCall (joined members) out .out ∷ []) =
-        subst (λ (ss : List (List Float)). LeftToRight ss (groupCall (joined members) out .out ∷ [])) (records-are members g some most) (r .left) in
+        let r = group-is-repeated (concatenated members) out (ap (λ (x : Reply Float). x .status) (group-writes members g some most out room)) in
+        let l : LeftToRight members (groupCall (concatenated members) out .out ∷ []) =
+        subst (λ (ss : List (List Float)). LeftToRight ss (groupCall (concatenated members) out .out ∷ [])) (records-are members g some most) (r .left) in
         repeated-keeps l k .0
 
     pub mixed-keeps : {ss left : List (List Float)} → Mixed ss left → EachRecord K ss → EachRecord K left

@@ -7,7 +7,7 @@ pub mod Exact
 pub mod Quotient
 pub mod Formula
 -- quarter-turn placements
-pub mod Signs
+pub mod WholeSigns
 pub mod Singles
 pub mod QuarterTurns
 pub mod InversePlacements

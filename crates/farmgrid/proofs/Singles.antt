@@ -11,7 +11,7 @@ use Rattle.number.specs.Grid.{signed}
 use Rattle.farmgrid.proofs.Integer.{of-self as self, of-pos, of-eq}
 use Rattle.farmgrid.specs.Placement.{sizes}
 use Rattle.farmgrid.specs.Placement.{dotℤ}
-use Rattle.farmgrid.proofs.Signs.{_⊞_, flip, times-unit}
+use Rattle.farmgrid.proofs.WholeSigns.{_⊞_, flip, times-unit}
 use Rattle.farmgrid.proofs.Dot.{dot-comm}
 
 -- ---- what holds at each place holds at every place

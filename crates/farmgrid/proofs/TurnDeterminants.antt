@@ -13,7 +13,7 @@ use Rattle.number.specs.Grid.{signed}
 use Rattle.matrix.specs.Inverse.{without}
 use Rattle.farmgrid.specs.Placement.{QuarterTurn, sizes}
 use Rattle.farmgrid.specs.Placement.{dotℤ, columnℤ}
-use Rattle.farmgrid.proofs.Signs.{flip}
+use Rattle.farmgrid.proofs.WholeSigns.{flip}
 use Rattle.farmgrid.proofs.Singles.{three, unit, Single}
 use Rattle.farmgrid.proofs.QuarterTurns.{determinantℤ, target}
 
@@ -152,13 +152,10 @@ module _ {f : ℕ → ℕ → ℤ} (F : QuarterTurn f) where
   found = if-then (upright f) (claims f) passed
       (each-all (λ j. eqb (sizes (columnℤ f j)) 1) (λ j h. eq→eqb {a = sizes (columnℤ f j)} {b = 1} (F .columns j h)))
 
+  -- the determinant of a quarter turn, however it is expanded
   pub determinants-are : (n : ℕ) → n < 3 → determinants f n ≡ signed (mirrored f) 1
   determinants-are n h = eqZ-is (determinants f n) (signed (mirrored f) 1)
       (each-at (isUnit f) (and-l (each (isUnit f)) (each (λ i. each (isPlain f i))) found) n h)
-
-  -- the determinant of a quarter turn
-  pub determinant-is : determinantℤ f ≡ signed (mirrored f) 1
-  determinant-is = determinants-are 0 (lit< tt)
 
   pub cofactor3-is : (i k : ℕ) → i < 3 → k < 3 → cofactor3 f i k ≡ flip (mirrored f) (f i k)
   cofactor3-is i k h l = eqZ-is (cofactor3 f i k) (flip (mirrored f) (f i k))

@@ -15,7 +15,7 @@ use Rattle.matrix.specs.declared.vec.Vec3d.{Vec3d}
 use Rattle.matrix.specs.declared.matrix.Mat4d.{Mat4d}
 use Rattle.matrix.specs.Matrix.{matrixOf}
 use Rattle.matrix.specs.Transform.{transformed}
-use Rattle.matrix.specs.Calls.{transformCall as pointMoved}
+use Rattle.matrix.specs.MatrixCalls.{transformCall as pointMoved}
 use Rattle.verdict.specs.declared.bbox.BBox3d.{BBox3d}
 use Rattle.verdict.specs.BBox.{boxOf, numbers, transformedBox}
 use Rattle.verdict.specs.BBoxCalls.{flagged, transformBoxCall as boxMoved}

@@ -30,7 +30,7 @@ use Rattle.farmgrid.proofs.WholeSums.{axis-fit, whole-vec3}
 use Rattle.farmgrid.proofs.WholePlacements.{wide, entry-fit}
 use Rattle.number.proofs.Places.{same-test}
 use Rattle.number.proofs.Comparisons.{refuted}
-use Rattle.farmgrid.proofs.Signs.{_⊞_, flip, times-unit}
+use Rattle.farmgrid.proofs.WholeSigns.{_⊞_, flip, times-unit}
 
 -- ---- emptiness
 

@@ -21,7 +21,7 @@ use Rattle.matrix.specs.Matrix.{entry, matrix}
 use Rattle.farmgrid.specs.Placement.{WholeVec, WholeVec4, WholeMatrix, Within}
 use Rattle.farmgrid.specs.Placement.{dotℤ, dot4ℤ}
 use Rattle.farmgrid.proofs.Singles.{three, four}
-use Rattle.farmgrid.proofs.Signs.{flip, times-unit, zero-plus}
+use Rattle.farmgrid.proofs.WholeSigns.{flip, times-unit, zero-plus}
 
 -- ---- the numbers 0 and 1
 

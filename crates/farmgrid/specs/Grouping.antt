@@ -18,9 +18,9 @@ use Rattle.farmgrid.specs.Combining.{Picked, Two, RangeExact}
 -- ---- the calls
 
 -- records one behind another, as one slice
-abbrev pub joined : List (List Float) → List Float
-joined [] = []
-joined (s ∷ ss) = s ++ joined ss
+abbrev pub concatenated : List (List Float) → List Float
+concatenated [] = []
+concatenated (s ∷ ss) = s ++ concatenated ss
 
 -- records, each taken out of a list at any place of it, leave the rest
 pub data Taken : List (List Float) → List (List Float) → List (List Float) → Type 0 where
@@ -41,7 +41,7 @@ pub data Mixed : List (List Float) → List (List Float) → Type 0 where
   combine : {a b : List Float} {ss rest left : List (List Float)} → Two a b ss rest → (out : List Float) → length out ≡ boxLength
       → Mixed (combineCall a b out .out ∷ rest) left → Mixed ss left
   group : {members ss rest left : List (List Float)} → Group members ss rest → (out : List Float) → length out ≡ boxLength
-      → Mixed (groupCall (joined members) out .out ∷ rest) left → Mixed ss left
+      → Mixed (groupCall (concatenated members) out .out ∷ rest) left → Mixed ss left
 
 -- ---- the claims
 
@@ -51,7 +51,7 @@ pub record GroupsExactly (ss : List (List Float)) (Bs : List WholeBox) : Type 0 
   pub combines : {a b : List Float} {left rest : List (List Float)} → Mixed ss left → Two a b left rest → (out : List Float) → length out ≡ boxLength
       → Accepted (combineCall a b out) (λ s. length s ≡ boxLength)
   pub groups : {members left rest : List (List Float)} → Mixed ss left → Group members left rest → (out : List Float) → length out ≡ boxLength
-      → Accepted (groupCall (joined members) out) (λ s. length s ≡ boxLength)
+      → Accepted (groupCall (concatenated members) out) (λ s. length s ≡ boxLength)
   -- "every order of the list and every split into parts gives the same aligned range, zeros of either sign alike": the exact least and greatest
   pub exact : {last : List Float} → Mixed ss (last ∷ []) → (out : List Float) → length out ≡ 6 → Accepted (alignedRangeCall last out) (RangeExact Bs)
 

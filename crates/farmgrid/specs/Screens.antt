@@ -8,7 +8,6 @@ use lib.Dec.{T}
 use lib.ListN.{length}
 use lib.IntN.{ℤ}
 use lib.Ieee.{Float}
-use Rattle.number.specs.Limits.{fewestPlanes}
 use Rattle.number.specs.Answer.{Outcome, result}
 use Rattle.verdict.specs.declared.plane.Plane.{Plane}
 use Rattle.verdict.specs.BBoxCalls.{flagged}

@@ -8,7 +8,7 @@ use lib.ListN.{length}
 use lib.IntN.{ℤ}
 use lib.Ieee.{Float}
 use Rattle.number.specs.Limits.{boxLength}
-use Rattle.matrix.specs.Calls.{transformCall as pointMoved}
+use Rattle.matrix.specs.MatrixCalls.{transformCall as pointMoved}
 use Rattle.verdict.specs.BBoxCalls.{transformBoxCall as boxMoved}
 use Rattle.verdict.specs.FrustumCalls.{intersectsPointCall, intersectsSegmentCall, intersectsBoxCall}
 use Rattle.farmgrid.specs.Placement.{GridPoint, movedℤ}

@@ -1,7 +1,7 @@
 // The operations on matrices.
 ghost use mathlib.Core.Path.{_≡_};
 ghost use Rattle.number.specs.Answer.{answered, lone, put, putVerdict};
-ghost use Rattle.matrix.specs.Calls.{productCall, transposeCall, inverseCall, transformCall, affineCall, directionCall, homogeneousCall, determinantCall, rightHandedCall};
+ghost use Rattle.matrix.specs.MatrixCalls.{productCall, transposeCall, inverseCall, transformCall, affineCall, directionCall, homogeneousCall, determinantCall, rightHandedCall};
 
 #[no_mangle]
 pub extern "C" fn gf_product(a: &[f64], b: &[f64], out: &mut [f64]) -> u32

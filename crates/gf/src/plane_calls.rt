@@ -1,7 +1,7 @@
 // The operations on planes.
 ghost use mathlib.Core.Path.{_≡_};
 ghost use Rattle.number.specs.Answer.{answered, lone, put, putVerdict};
-ghost use Rattle.verdict.specs.Calls.{newPlaneCall, fromPointsCall, fromEquationCall, distanceCall, sideCall, transformedPlaneCall};
+ghost use Rattle.verdict.specs.PlaneCalls.{newPlaneCall, fromPointsCall, fromEquationCall, distanceCall, sideCall, transformedPlaneCall};
 
 #[no_mangle]
 pub extern "C" fn gf_plane_new(normal: &[f64], distance: f64, out: &mut [f64]) -> u32

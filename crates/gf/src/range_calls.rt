@@ -1,7 +1,7 @@
 // The operations on ranges.
 ghost use mathlib.Core.Path.{_≡_};
 ghost use Rattle.number.specs.Answer.{answered, lone, put, putVerdict};
-ghost use Rattle.matrix.specs.Calls.{isEmptyCall, unionCall, intersectionCall, midpointCall, distanceSquaredCall, transformedCall, cornersCall};
+ghost use Rattle.matrix.specs.RangeCalls.{isEmptyCall, unionCall, intersectionCall, midpointCall, distanceSquaredCall, transformedCall, cornersCall};
 
 #[no_mangle]
 pub extern "C" fn gf_range_is_empty(range: &[f64], out: &mut u32) -> u32

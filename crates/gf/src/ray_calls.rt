@@ -1,7 +1,7 @@
 // The operations on rays.
 ghost use mathlib.Core.Path.{_≡_};
 ghost use Rattle.number.specs.Answer.{answered};
-ghost use Rattle.verdict.specs.Calls.{pointCall, transformedRayCall, planeHitCall, triangleHitCall};
+ghost use Rattle.verdict.specs.RayCalls.{pointCall, transformedRayCall, planeHitCall, triangleHitCall};
 
 #[no_mangle]
 pub extern "C" fn gf_ray_point(ray: &[f64], distance: f64, out: &mut [f64]) -> u32

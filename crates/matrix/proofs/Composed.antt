@@ -63,13 +63,13 @@ unfolding over absOf
 no-number epsilon d i p = rw (p, none-above epsilon)
 
 -- the first row of m times the first column of i
-abbrev along : Mat4d → Mat4d → Float
-along m i = dot4 (entry m 0) (λ k. entry i k 0)
+abbrev firstRowTimes : Mat4d → Mat4d → Float
+firstRowTimes m i = dot4 (entry m 0) (λ k. entry i k 0)
 
-module _ (epsilon : Float) (m i : Mat4d) (d : Float) (v : Inverted) (p : i ≡ adjugate m) (q : d ≡ along m i) where
+module _ (epsilon : Float) (m i : Mat4d) (d : Float) (v : Inverted) (p : i ≡ adjugate m) (q : d ≡ firstRowTimes m i) where
   by-row : d ≡ determinant m
   unfolding determinant adjugate
-  by-row = q ∙ ap (along m) p
+  by-row = q ∙ ap (firstRowTimes m) p
 
   pub inverse-from : v ≡ over epsilon d i → v ≡ inverseAbove epsilon m
   unfolding inverseAbove
@@ -80,7 +80,7 @@ told : (z : Bool) (x : Mat4d) → z ≡ hasInverse (unless z Singular (Matrix x)
 told true x = refl
 told false x = refl
 
-module _ (epsilon : Float) (m i : Mat4d) (d : Float) (p : i ≡ adjugate m) (q : d ≡ along m i) where
+module _ (epsilon : Float) (m i : Mat4d) (d : Float) (p : i ≡ adjugate m) (q : d ≡ firstRowTimes m i) where
   pub has-none : d ≡ nan → false ≡ hasInverse (inverseAbove epsilon m)
   has-none n = ap hasInverse (inverse-from epsilon m i d Singular p q (no-number epsilon d i n))
 

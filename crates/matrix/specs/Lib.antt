@@ -5,6 +5,7 @@ pub mod Matrix
 pub mod Transform
 pub mod Inverse
 pub mod Range
-pub mod Calls
+pub mod MatrixCalls
+pub mod RangeCalls
 pub mod Steps
 pub mod Signs

@@ -62,13 +62,13 @@ abbrev pub squared : Float → Float
 squared x = x ⊗ x
 
 -- from p to the span between two numbers, below it first; 0 where p is on neither side of it, and so for NaN
-unfoldable pub along : Float → Float → Float → Float
-along p low high = cond (lt p low) (squared (low ⊖ p)) (cond (lt high p) (squared (p ⊖ high)) positiveZero)
+unfoldable pub spanDistanceSquared : Float → Float → Float → Float
+spanDistanceSquared p low high = cond (lt p low) (squared (low ⊖ p)) (cond (lt high p) (squared (p ⊖ high)) positiveZero)
 
 unfoldable pub distanceSquared : Range3d → Vec3d → Float
-unfolding along
+unfolding spanDistanceSquared
 distanceSquared r p =
-    along (p .x) (r .min .x) (r .max .x) ⊕ along (p .y) (r .min .y) (r .max .y) ⊕ along (p .z) (r .min .z) (r .max .z)
+    spanDistanceSquared (p .x) (r .min .x) (r .max .x) ⊕ spanDistanceSquared (p .y) (r .min .y) (r .max .y) ⊕ spanDistanceSquared (p .z) (r .min .z) (r .max .z)
 
 -- ---- a range through a matrix, which is taken to be affine
 

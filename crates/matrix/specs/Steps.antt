@@ -5,5 +5,5 @@ use Rattle.number.specs.Arithmetic.{_⊗_, nonzero}
 use Rattle.matrix.specs.declared.range.Range3d.{Range3d}
 
 -- Its six numbers, multiplied, are neither a zero nor a NaN; so none of them is.
-abbrev pub settled : Range3d → Bool
-settled r = nonzero (r .min .x ⊗ r .max .x ⊗ (r .min .y ⊗ r .max .y) ⊗ (r .min .z ⊗ r .max .z))
+abbrev pub nonzeroBounds : Range3d → Bool
+nonzeroBounds r = nonzero (r .min .x ⊗ r .max .x ⊗ (r .min .y ⊗ r .max .y) ⊗ (r .min .z ⊗ r .max .z))

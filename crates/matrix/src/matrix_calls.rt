@@ -2,7 +2,7 @@
 // and copies them.
 ghost use mathlib.Core.Path.{_≡_};
 ghost use Rattle.number.specs.Answer.{reply, scalarOf, verdictOf};
-ghost use Rattle.matrix.specs.Calls.{productCall, transposeCall, inverseCall, transformCall, affineCall, homogeneousCall, directionCall, determinantCall, rightHandedCall};
+ghost use Rattle.matrix.specs.MatrixCalls.{productCall, transposeCall, inverseCall, transformCall, affineCall, homogeneousCall, directionCall, determinantCall, rightHandedCall};
 use crate::inverse::Inverted;
 use crate::inverse::SINGULAR_DETERMINANT;
 use crate::matrix::Mat4d;

@@ -2,9 +2,9 @@
 ghost use mathlib.Core.Path.{_≡_};
 ghost use mathlib.Core.Bool.{cond};
 ghost use Rattle.matrix.specs.Vec.{axis4, vec3, eachAxis};
-ghost use Rattle.matrix.specs.Range.{range, rangeOf, bounds, empty, isEmpty, joined, union, intersection, size, midpoint, along, distanceSquared, reach, reached, transformed, corner, corners};
+ghost use Rattle.matrix.specs.Range.{range, rangeOf, bounds, empty, isEmpty, joined, union, intersection, size, midpoint, spanDistanceSquared, distanceSquared, reach, reached, transformed, corner, corners};
 ghost use Rattle.matrix.specs.Matrix.{product};
-ghost use Rattle.matrix.specs.Steps.{settled};
+ghost use Rattle.matrix.specs.Steps.{nonzeroBounds};
 ghost use Rattle.number.specs.Arithmetic.{lowerOf, upperOf, minOf, maxOf};
 ghost use Rattle.number.specs.Slice.{stored};
 use crate::matrix::Mat4d;
@@ -21,8 +21,8 @@ pub struct Range3d {
 
 // The squared distance of a number from the span between two others. Where both tests hold, the second counts; no return waits on
 // either, so neither is a branch.
-fn along(p: f64, min: f64, max: f64) -> f64
-    ensures { λ r. ⌜ r ≡ along p min max ⌝ }
+fn span_distance_squared(p: f64, min: f64, max: f64) -> f64
+    ensures { λ r. ⌜ r ≡ spanDistanceSquared p min max ⌝ }
 {
     let mut found = 0.0;
     if p > max {
@@ -83,8 +83,8 @@ impl Range3d {
     }
 
     // None of its numbers is a zero or a NaN: where one is, so is their product.
-    pub(crate) fn is_settled(self) -> bool
-        ensures { λ r. ⌜ r ≡ settled self ⌝ }
+    pub(crate) fn has_nonzero_bounds(self) -> bool
+        ensures { λ r. ⌜ r ≡ nonzeroBounds self ⌝ }
     {
         order::is_nonzero(
             self.min.x * self.max.x * (self.min.y * self.max.y) * (self.min.z * self.max.z),
@@ -123,8 +123,8 @@ impl Range3d {
         }
     }
 
-    // Its corners in each other's place: what both of two ranges hold is, so turned, the union of the two turned.
-    fn turned(self) -> Range3d
+    // Its corners in each other's place: what both of two ranges hold is, so swapped, the union of the two swapped.
+    fn corners_swapped(self) -> Range3d
         ensures { λ r. ⌜ r ≡ range (self .max) (self .min) ⌝ }
     {
         let least = self.max;
@@ -142,10 +142,12 @@ impl Range3d {
             min: self.min.upper(other.min),
             max: self.max.lower(other.max),
         };
-        if found.is_settled() {
+        if found.has_nonzero_bounds() {
             return found;
         }
-        self.turned().joined(other.turned()).turned()
+        self.corners_swapped()
+            .joined(other.corners_swapped())
+            .corners_swapped()
     }
 
     pub fn size(self) -> Vec3d
@@ -163,9 +165,9 @@ impl Range3d {
     pub fn distance_squared(self, p: Vec3d) -> f64
         ensures { λ r. ⌜ r ≡ distanceSquared self p ⌝ }
     {
-        along(p.x, self.min.x, self.max.x)
-            + along(p.y, self.min.y, self.max.y)
-            + along(p.z, self.min.z, self.max.z)
+        span_distance_squared(p.x, self.min.x, self.max.x)
+            + span_distance_squared(p.y, self.min.y, self.max.y)
+            + span_distance_squared(p.z, self.min.z, self.max.z)
     }
 
     // The least that the range comes to along an axis, whose column of a matrix is given, the translation its last number: with a NaN passed over and the
@@ -261,7 +263,7 @@ impl Range3d {
             min: self.transformed_min(matrix),
             max: self.transformed_max(matrix),
         };
-        if found.is_settled() {
+        if found.has_nonzero_bounds() {
             return found;
         }
         self.transformed_signed(matrix)
@@ -284,7 +286,7 @@ impl Range3d {
             min: self.transformed_min(matrix),
             max: self.transformed_max(matrix),
         };
-        if found.is_settled() {
+        if found.has_nonzero_bounds() {
             return found;
         }
         self.transformed_signed(matrix)
@@ -302,7 +304,7 @@ impl Range3d {
             return self;
         }
         let found = self.outward(moved);
-        if found.is_settled() {
+        if found.has_nonzero_bounds() {
             return found;
         }
         self.joined(moved)

@@ -1,7 +1,7 @@
 // The operations on ranges, over lent slices.
 ghost use mathlib.Core.Path.{_≡_};
 ghost use Rattle.number.specs.Answer.{reply, scalarOf, verdictOf};
-ghost use Rattle.matrix.specs.Calls.{isEmptyCall, unionCall, intersectionCall, midpointCall, distanceSquaredCall, transformedCall, cornersCall};
+ghost use Rattle.matrix.specs.RangeCalls.{isEmptyCall, unionCall, intersectionCall, midpointCall, distanceSquaredCall, transformedCall, cornersCall};
 use crate::matrix::Mat4d;
 use crate::range::Range3d;
 use crate::vec::Vec3d;
@@ -59,7 +59,7 @@ pub fn union(a: &[f64], b: &[f64], out: &mut [f64]) -> Written
         return Written::Done;
     }
     let found = first.outward(second);
-    if found.is_settled() {
+    if found.has_nonzero_bounds() {
         found.store(out);
         return Written::Done;
     }
@@ -134,7 +134,7 @@ pub fn transformed(range: &[f64], m: &[f64], out: &mut [f64]) -> Written
         min: given.transformed_min(matrix),
         max: given.transformed_max(matrix),
     };
-    if found.is_settled() {
+    if found.has_nonzero_bounds() {
         found.store(out);
         return Written::Done;
     }

@@ -3,14 +3,15 @@
 -- "1 means an input slice's length differs from its record. 2 means an output slice's length differs." "Each is given only on its condition, earliest listed first."
 use mathlib.Core.List.{List}
 use lib.Ieee.{Float}
+use Rattle.number.specs.Limits.{matrixLength, projectionLength}
 use Rattle.number.specs.Answer.{Reply, has, attempting}
 use Rattle.matrix.specs.Matrix.{matrixOf}
 use Rattle.projection.specs.Projection.{loaded, builtNumbers, recovered, recoveredNumbers}
 
 -- "building gives 1, 2, 3"
 unfoldable pub projectionCall : List Float → List Float → Reply Float
-projectionCall p out = attempting (has 7 p) 16 (builtNumbers (loaded p)) out
+projectionCall p out = attempting (has projectionLength p) matrixLength (builtNumbers (loaded p)) out
 
 -- "Recovery gives 1, 2, then 6"
 unfoldable pub recoveryCall : List Float → List Float → Reply Float
-recoveryCall m out = attempting (has 16 m) 7 (recoveredNumbers (recovered (matrixOf m))) out
+recoveryCall m out = attempting (has matrixLength m) projectionLength (recoveredNumbers (recovered (matrixOf m))) out

@@ -21,7 +21,7 @@ use Rattle.matrix.specs.declared.range.Range3d.{Range3d}
 use Rattle.verdict.specs.declared.interval.Interval.{Interval}
 use Rattle.verdict.specs.Plane.{fromEquation, offset, endToward, reachesPositiveSide}
 use Rattle.verdict.specs.Steps.Intervals.{Holds, scaled, plus, over, oneSided, far, withinFar, brackets}
-use Rattle.verdict.specs.Steps.Bounds.{along, reachOf, boundsOf, BoundsSettle}
+use Rattle.verdict.specs.Steps.Bounds.{reachAlong, reachOf, boundsOf, BoundsSettle}
 use Rattle.verdict.proofs.Constants.{within-far}
 use Rattle.verdict.proofs.Intervals.{Finite, scaled-finite, scaled-holds, plus-finite, plus-holds, over-holds}
 use Rattle.verdict.proofs.LengthBracket.{low-positive, high-positive, root-held, root-positive, least-root, larger-is, offset-is}
@@ -42,14 +42,14 @@ unfolding endToward
 same-end i x a b h o = ap (λ (v : Bool). cond v b a) (one-sided-test i x h o)
 
 -- the number of the normal times that of the furthest corner is held
-along-holds : (f : Interval) (r n a b : Float) → Finite (along (scaled f n) a b) → Holds f r → T (oneSided (scaled f n))
-    → Holds (along (scaled f n) a b) (n ⊗ r ⊗ endToward (n ⊗ r) a b)
-along-holds f r n a b g h o =
+reach-along-holds : (f : Interval) (r n a b : Float) → Finite (reachAlong (scaled f n) a b) → Holds f r → T (oneSided (scaled f n))
+    → Holds (reachAlong (scaled f n) a b) (n ⊗ r ⊗ endToward (n ⊗ r) a b)
+reach-along-holds f r n a b g h o =
     let c = endToward (scaled f n .low) a b in
     let s = scaled-finite (scaled f n) c g .0 in
     let F = scaled-finite f n s in
     let held = subst (Holds (scaled f n)) (product-either-order r n) (scaled-holds f n r s h) in
-    subst (λ (z : Float). Holds (along (scaled f n) a b) (n ⊗ r ⊗ z)) (same-end (scaled f n) (n ⊗ r) a b held o) (scaled-holds (scaled f n) c (n ⊗ r) g held)
+    subst (λ (z : Float). Holds (reachAlong (scaled f n) a b) (n ⊗ r ⊗ z)) (same-end (scaled f n) (n ⊗ r) a b held o) (scaled-holds (scaled f n) c (n ⊗ r) g held)
 
 -- ---- what the test compares
 
@@ -89,13 +89,13 @@ module _ (x y z w : Float) (r : Range3d) (l : Interval) (A : T (fits binary64 (l
     k = one ⊘ maxOf length minLength
 
     abbrev ix : Interval
-    ix = along (scaled f x) (r .min .x) (r .max .x)
+    ix = reachAlong (scaled f x) (r .min .x) (r .max .x)
 
     abbrev iy : Interval
-    iy = along (scaled f y) (r .min .y) (r .max .y)
+    iy = reachAlong (scaled f y) (r .min .y) (r .max .y)
 
     abbrev iz : Interval
-    iz = along (scaled f z) (r .min .z) (r .max .z)
+    iz = reachAlong (scaled f z) (r .min .z) (r .max .z)
 
     all-finite : Finite (plus (plus ix iy) iz)
     all-finite = far-finite (plus (plus ix iy) iz) R
@@ -116,9 +116,9 @@ module _ (x y z w : Float) (r : Range3d) (l : Interval) (A : T (fits binary64 (l
         (x ⊗ k ⊗ endToward (x ⊗ k) (r .min .x) (r .max .x) ⊕ y ⊗ k ⊗ endToward (y ⊗ k) (r .min .y) (r .max .y) ⊕ z ⊗ k ⊗ endToward (z ⊗ k) (r .min .z) (r .max .z))
     reach-held =
         plus-holds (plus ix iy) iz _ _ all-finite
-        (plus-holds ix iy _ _ two-finite (along-holds f k x (r .min .x) (r .max .x) (plus-finite ix iy two-finite .0) factor-held X)
-        (along-holds f k y (r .min .y) (r .max .y) (plus-finite ix iy two-finite .1) factor-held Y))
-        (along-holds f k z (r .min .z) (r .max .z) (plus-finite (plus ix iy) iz all-finite .1) factor-held Z)
+        (plus-holds ix iy _ _ two-finite (reach-along-holds f k x (r .min .x) (r .max .x) (plus-finite ix iy two-finite .0) factor-held X)
+        (reach-along-holds f k y (r .min .y) (r .max .y) (plus-finite ix iy two-finite .1) factor-held Y))
+        (reach-along-holds f k z (r .min .z) (r .max .z) (plus-finite (plus ix iy) iz all-finite .1) factor-held Z)
 
     -- what the bounds tell apart
     told : T (le (over (neg w) l .high) (plus (plus ix iy) iz .low)) → reachesPositiveSide (fromEquation e) r ≡ not (isEmpty r)

@@ -8,7 +8,7 @@ use borrow.Author.Tests.{le-leb, lt-leb, eqb-true, eq-eqb, ne-eqb}
 use lib.Dec.{leb}
 use lib.ListN.{length}
 use lib.Ieee.{Float}
-use Rattle.number.specs.Limits.{fewestPlanes, mostPlanes}
+use Rattle.number.specs.Limits.{fewestPlanes}
 use Rattle.number.specs.Answer.{Outcome, refused, result, unless, has}
 use Rattle.number.specs.Slice.{at}
 use Rattle.number.proofs.Ways.{stops, passes}

@@ -6,6 +6,7 @@ use Prim.Native.Nat.{ℕ}
 use borrow.Author.Tests.{eq-eqb}
 use lib.ListN.{length}
 use lib.Ieee.{Float}
+use Rattle.number.specs.Limits.{pointLength, matrixLength, boxLength}
 use Rattle.number.specs.Answer.{result}
 use Rattle.number.proofs.Ways.{both}
 use Rattle.matrix.specs.Vec.{vec3Of}
@@ -17,38 +18,38 @@ use Rattle.verdict.specs.Frustum.{pointInView, segmentInView, triangleIn
 use Rattle.verdict.specs.FrustumCalls.{haveLengths, verdictAfter, verdictBy, intersectsPointCall, intersectsSegmentCall, intersectsTriangleCall, intersectsBoxCall, viewVolumeCall}
 use Rattle.verdict.proofs.VerdictChecks.{one-input, two-inputs, answered}
 
-pub point-call : (v p : List Float) → verdictAfter (haveLengths ((3, p) ∷ [])) (planesHeld v) true (λ n. pointInView (planesOf v n) (vec3Of p)) ≡ intersectsPointCall v p
+pub point-call : (v p : List Float) → verdictAfter (haveLengths ((pointLength, p) ∷ [])) (planesHeld v) true (λ n. pointInView (planesOf v n) (vec3Of p)) ≡ intersectsPointCall v p
 unfolding intersectsPointCall verdictBy
 point-call v p = refl
 
 pub segment-call : (v p0 p1 : List Float)
-    → verdictAfter (haveLengths ((3, p0) ∷ (3, p1) ∷ [])) (planesHeld v) true (λ n. segmentInView (planesOf v n) (vec3Of p0) (vec3Of p1)) ≡ intersectsSegmentCall v p0 p1
+    → verdictAfter (haveLengths ((pointLength, p0) ∷ (pointLength, p1) ∷ [])) (planesHeld v) true (λ n. segmentInView (planesOf v n) (vec3Of p0) (vec3Of p1)) ≡ intersectsSegmentCall v p0 p1
 unfolding intersectsSegmentCall verdictBy
 segment-call v p0 p1 = refl
 
 pub triangle-call : (v p0 p1 p2 : List Float)
-    → verdictAfter (haveLengths ((3, p0) ∷ (3, p1) ∷ (3, p2) ∷ [])) (planesHeld v) true
+    → verdictAfter (haveLengths ((pointLength, p0) ∷ (pointLength, p1) ∷ (pointLength, p2) ∷ [])) (planesHeld v) true
     (λ n. triangleInView (planesOf v n) (raysOf v n) (vec3Of p0) (vec3Of p1) (vec3Of p2)) ≡ intersectsTriangleCall v p0 p1 p2
 unfolding intersectsTriangleCall verdictBy
 triangle-call v p0 p1 p2 = refl
 
-pub box-call : (v b : List Float) → verdictAfter (haveLengths ((23, b) ∷ [])) (planesHeld v) (flagged b) (λ n. boxInView (planesOf v n) (boxOf b)) ≡ intersectsBoxCall v b
+pub box-call : (v b : List Float) → verdictAfter (haveLengths ((boxLength, b) ∷ [])) (planesHeld v) (flagged b) (λ n. boxInView (planesOf v n) (boxOf b)) ≡ intersectsBoxCall v b
 unfolding intersectsBoxCall verdictBy
 box-call v b = refl
 
 pub clip-call : (b m : List Float)
-    → verdictAfter (haveLengths ((23, b) ∷ (16, m) ∷ [])) (result (boxOf b)) (flagged b) (λ x. boxInViewVolume x (matrixOf m)) ≡ viewVolumeCall b m
+    → verdictAfter (haveLengths ((boxLength, b) ∷ (matrixLength, m) ∷ [])) (result (boxOf b)) (flagged b) (λ x. boxInViewVolume x (matrixOf m)) ≡ viewVolumeCall b m
 unfolding viewVolumeCall
 clip-call b m = refl
 
 -- ---- by a volume that holds n planes, where the other records have their lengths and the flag is one
 
 module _ (v : List Float) (n : ℕ) (e : result n ≡ planesHeld v) where
-  pub point-answered : (p : List Float) → length p ≡ 3 → intersectsPointCall v p ≡ result (pointInView (planesOf v n) (vec3Of p))
-  point-answered p h = sym (answered _ _ _ _ (one-input 3 p ∙ eq-eqb _ _ h) n _ e refl refl ∙ point-call v p)
+  pub point-answered : (p : List Float) → length p ≡ pointLength → intersectsPointCall v p ≡ result (pointInView (planesOf v n) (vec3Of p))
+  point-answered p h = sym (answered _ _ _ _ (one-input pointLength p ∙ eq-eqb _ _ h) n _ e refl refl ∙ point-call v p)
 
-  pub segment-answered : (p q : List Float) → length p ≡ 3 → length q ≡ 3 → intersectsSegmentCall v p q ≡ result (segmentInView (planesOf v n) (vec3Of p) (vec3Of q))
-  segment-answered p q h i = sym (answered _ _ _ _ (two-inputs 3 p 3 q ∙ both (eq-eqb _ _ h) (eq-eqb _ _ i)) n _ e refl refl ∙ segment-call v p q)
+  pub segment-answered : (p q : List Float) → length p ≡ pointLength → length q ≡ pointLength → intersectsSegmentCall v p q ≡ result (segmentInView (planesOf v n) (vec3Of p) (vec3Of q))
+  segment-answered p q h i = sym (answered _ _ _ _ (two-inputs pointLength p pointLength q ∙ both (eq-eqb _ _ h) (eq-eqb _ _ i)) n _ e refl refl ∙ segment-call v p q)
 
-  pub box-answered : (b : List Float) → length b ≡ 23 → flagged b ≡ true → intersectsBoxCall v b ≡ result (boxInView (planesOf v n) (boxOf b))
-  box-answered b h f = sym (answered _ _ _ _ (one-input 23 b ∙ eq-eqb _ _ h) n _ e f refl ∙ box-call v b)
+  pub box-answered : (b : List Float) → length b ≡ boxLength → flagged b ≡ true → intersectsBoxCall v b ≡ result (boxInView (planesOf v n) (boxOf b))
+  box-answered b h f = sym (answered _ _ _ _ (one-input boxLength b ∙ eq-eqb _ _ h) n _ e f refl ∙ box-call v b)

@@ -3,6 +3,7 @@ use mathlib.Core.Bool.{Bool, true, _&&_}
 use mathlib.Core.List.{List, [], _∷_}
 use Prim.Native.Nat.{ℕ}
 use lib.Ieee.{Float}
+use Rattle.number.specs.Limits.{pointLength, matrixLength, boxLength}
 use Rattle.number.specs.Answer.{Outcome, refused, result, unless, has}
 use Rattle.matrix.specs.Vec.{vec3Of}
 use Rattle.matrix.specs.Matrix.{matrixOf}
@@ -34,21 +35,21 @@ verdictBy v others flag verdict = verdictAfter (haveLengths others) (planesHeld 
 
 unfoldable pub intersectsPointCall : List Float → List Float → Outcome Bool
 unfolding verdictBy
-intersectsPointCall v p = verdictBy v ((3, p) ∷ []) true (λ ps rs. pointInView ps (vec3Of p))
+intersectsPointCall v p = verdictBy v ((pointLength, p) ∷ []) true (λ ps rs. pointInView ps (vec3Of p))
 
 unfoldable pub intersectsSegmentCall : List Float → List Float → List Float → Outcome Bool
 unfolding verdictBy
-intersectsSegmentCall v p0 p1 = verdictBy v ((3, p0) ∷ (3, p1) ∷ []) true (λ ps rs. segmentInView ps (vec3Of p0) (vec3Of p1))
+intersectsSegmentCall v p0 p1 = verdictBy v ((pointLength, p0) ∷ (pointLength, p1) ∷ []) true (λ ps rs. segmentInView ps (vec3Of p0) (vec3Of p1))
 
 unfoldable pub intersectsTriangleCall : List Float → List Float → List Float → List Float → Outcome Bool
 unfolding verdictBy
 intersectsTriangleCall v p0 p1 p2 =
-    verdictBy v ((3, p0) ∷ (3, p1) ∷ (3, p2) ∷ []) true (λ ps rs. triangleInView ps rs (vec3Of p0) (vec3Of p1) (vec3Of p2))
+    verdictBy v ((pointLength, p0) ∷ (pointLength, p1) ∷ (pointLength, p2) ∷ []) true (λ ps rs. triangleInView ps rs (vec3Of p0) (vec3Of p1) (vec3Of p2))
 
 unfoldable pub intersectsBoxCall : List Float → List Float → Outcome Bool
 unfolding verdictBy
-intersectsBoxCall v b = verdictBy v ((23, b) ∷ []) (flagged b) (λ ps rs. boxInView ps (boxOf b))
+intersectsBoxCall v b = verdictBy v ((boxLength, b) ∷ []) (flagged b) (λ ps rs. boxInView ps (boxOf b))
 
 unfoldable pub viewVolumeCall : List Float → List Float → Outcome Bool
 unfolding haveLengths verdictAfter
-viewVolumeCall b m = verdictAfter (haveLengths ((23, b) ∷ (16, m) ∷ [])) (result (boxOf b)) (flagged b) (λ x. boxInViewVolume x (matrixOf m))
+viewVolumeCall b m = verdictAfter (haveLengths ((boxLength, b) ∷ (matrixLength, m) ∷ [])) (result (boxOf b)) (flagged b) (λ x. boxInViewVolume x (matrixOf m))

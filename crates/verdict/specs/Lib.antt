@@ -1,7 +1,8 @@
 -- What the contracts of this crate cite, and what a reader must believe.
 pub mod Plane
 pub mod Ray
-pub mod Calls
+pub mod PlaneCalls
+pub mod RayCalls
 pub mod BBox
 pub mod BBoxCalls
 pub mod View

@@ -52,14 +52,14 @@ abbrev pub facing : Ray → Plane → Float
 facing r p = dot (r .direction) (p .normal)
 
 -- how far along the ray the plane is, by the point of the plane on its normal
-abbrev pub along : Ray → Plane → Float
-along r p = dot (difference (multiple (p .normal) (p .distance)) (r .start)) (p .normal) ⊘ facing r p
+abbrev pub distanceAlong : Ray → Plane → Float
+distanceAlong r p = dot (difference (multiple (p .normal) (p .distance)) (r .start)) (p .normal) ⊘ facing r p
 
 -- "`intersect_plane` misses if |facing| < 1e-10: 9e-11 misses, 1e-10 goes on. Distance zero hits." The front is the side that the normal points into.
 unfoldable pub planeHit : Ray → Plane → PlaneHit
 planeHit r p =
     cond (lt (absOf (facing r p)) minLength) Miss
-    (cond (le positiveZero (along r p)) (At (along r p) (lt (facing r p) positiveZero)) Miss)
+    (cond (le positiveZero (distanceAlong r p)) (At (distanceAlong r p) (lt (facing r p) positiveZero)) Miss)
 
 -- ---- where it meets a triangle
 

@@ -1,7 +1,7 @@
 // The operations on planes, over lent slices.
 ghost use mathlib.Core.Path.{_≡_};
 ghost use Rattle.number.specs.Answer.{reply, scalarOf, verdictOf};
-ghost use Rattle.verdict.specs.Calls.{newPlaneCall, fromPointsCall, fromEquationCall, distanceCall, sideCall, transformedPlaneCall};
+ghost use Rattle.verdict.specs.PlaneCalls.{newPlaneCall, fromPointsCall, fromEquationCall, distanceCall, sideCall, transformedPlaneCall};
 use crate::plane::Plane;
 use crate::plane::Transformed;
 use matrix::matrix::Mat4d;

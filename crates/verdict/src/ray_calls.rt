@@ -1,7 +1,7 @@
 // The operations on rays, over lent slices.
 ghost use mathlib.Core.Path.{_≡_};
 ghost use Rattle.number.specs.Answer.{reply};
-ghost use Rattle.verdict.specs.Calls.{pointCall, transformedRayCall, planeHitCall, triangleHitCall};
+ghost use Rattle.verdict.specs.RayCalls.{pointCall, transformedRayCall, planeHitCall, triangleHitCall};
 use crate::plane::Plane;
 use crate::ray::PlaneHit;
 use crate::ray::Ray;

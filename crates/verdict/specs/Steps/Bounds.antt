@@ -15,11 +15,11 @@ use Rattle.verdict.specs.Plane.{endToward, fromEquation, reachesPositive
 use Rattle.verdict.specs.Steps.Intervals.{scaled, plus, over, oneSided, withinFar, brackets}
 
 -- the number of a normal times that of the furthest corner, by bounds of the first
-abbrev pub along : Interval → Float → Float → Interval
-along i low high = scaled i (endToward (i .low) low high)
+abbrev pub reachAlong : Interval → Float → Float → Interval
+reachAlong i low high = scaled i (endToward (i .low) low high)
 
 abbrev pub reachOf : Interval → Interval → Interval → Range3d → Interval
-reachOf x y z r = plus (plus (along x (r .min .x) (r .max .x)) (along y (r .min .y) (r .max .y))) (along z (r .min .z) (r .max .z))
+reachOf x y z r = plus (plus (reachAlong x (r .min .x) (r .max .x)) (reachAlong y (r .min .y) (r .max .y))) (reachAlong z (r .min .z) (r .max .z))
 
 -- of the equation of a plane, the length of whose normal is between bounds
 unfoldable pub boundsOf : Vec4d → Range3d → Interval → Between

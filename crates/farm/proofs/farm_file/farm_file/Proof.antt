@@ -1,5 +1,5 @@
 -- `farm_file::farm_file` meets its contract: each check by its test, in their order, and the slots by what it calls. Assumes nothing.
-use mathlib.Core.Path.{_≡_, refl, sym, ap, _∙_}
+use mathlib.Core.Path.{_≡_, sym, ap, _∙_}
 use mathlib.Core.Bool.{Bool, true, false, not}
 use mathlib.Core.List.{List, map}
 use Prim.Native.Nat.{ℕ, _-_, _<_, _≤_}
@@ -11,9 +11,9 @@ use Rattle.number.specs.Limits.{largestFile}
 use Rattle.number.specs.Answer.{refused, result}
 use Rattle.verdict.specs.View.{isCount}
 use Rattle.farm.specs.Directory.{sectionCount, boxSections, wellFormed}
-use Rattle.farm.specs.FarmFile.{volumeThere, countNumber, planeCount, sized, allFlagged, inView, checked, slotCount, slots, Listing, listing, listed, farmFileCall}
+use Rattle.farm.specs.FarmFile.{volumeThere, countNumber, planeCount, sized, allFlagged, inView, checked, slotCount, slots, listing, listed, farmFileCall}
 use Rattle.farm.proofs.SectionsLeft.{as-many}
-use Rattle.farm.specs.Steps.{saidBy}
+use Rattle.farm.specs.Steps.{countOrZero}
 use Rattle.farm.proofs.Placed.{at-least}
 use Rattle.farm.proofs.PlaneCounts.{said-whole, none-said, some-said}
 use Rattle.farm.proofs.farm_file.farm_file.Statement.{statement}
@@ -58,9 +58,9 @@ module _ (b out : List ℕ) where
               unfolding checked
               other-flags f = rw (← left, w, v, c, s, f)
 
-              judged : (n : ℕ) (x : List ℕ) → allFlagged b ≡ true → n ≡ sectionCount b → x ≡ slots (map (inView b) (boxSections b)) → listing (result (n - 1)) x ≡ farmFileCall b out
+              all-answered : (n : ℕ) (x : List ℕ) → allFlagged b ≡ true → n ≡ sectionCount b → x ≡ slots (map (inView b) (boxSections b)) → listing (result (n - 1)) x ≡ farmFileCall b out
               unfolding checked
-              judged n x f e g =
+              all-answered n x f e g =
                   let m = length-map (boxSections b) (inView b) ∙ as-many b 1 (sectionCount b - 1) in
                   rw (e, g, ← left, w, v, c, s, f) (ap (λ (k : ℕ). listing (result k) (slots (map (inView b) (boxSections b)))) (sym m))
 
@@ -104,10 +104,10 @@ returns-5 c =
     (passed (there .before .has-volume .ensures) (there .if4 .left)) (none-said (countNumber (given .file .now)) (sym (count .plane-count .ensures) ∙ c .if5 .taken))
 
 -- a count that is not 0 is one, and the file's
-is-count : (b : List ℕ) {n : ℕ} → n ≡ saidBy (countNumber b) → (n ≡ 0 → ⊥) → isCount (countNumber b) ≡ true
+is-count : (b : List ℕ) {n : ℕ} → n ≡ countOrZero (countNumber b) → (n ≡ 0 → ⊥) → isCount (countNumber b) ≡ true
 is-count b e h = some-said (countNumber b) (λ z. h (e ∙ z))
 
-its-count : (b : List ℕ) {n : ℕ} → n ≡ saidBy (countNumber b) → (n ≡ 0 → ⊥) → n ≡ planeCount b
+its-count : (b : List ℕ) {n : ℕ} → n ≡ countOrZero (countNumber b) → (n ≡ 0 → ⊥) → n ≡ planeCount b
 its-count b e h = e ∙ said-whole (countNumber b) (is-count b e h)
 
 are-sized-requires : tie.Need-are-sized-requires
@@ -145,8 +145,8 @@ returns-7 c =
     (passed (there .before .has-volume .ensures) (there .if4 .left)) (is-count (given .file .now) (count .before .plane-count .ensures) (count .if5 .left))
     (passed (size .before .are-sized .ensures) (size .if6 .left)) (stopped (flag .are-flagged .ensures) (c .if7 .taken))
 
-judge-requires : tie.Need-judge-requires
-judge-requires c κs =
+file-slots-requires : tie.Need-file-slots-requires
+file-slots-requires c κs =
     let flag = c .before in
     let size = flag .before .before in
     let count = size .before .before in
@@ -177,9 +177,9 @@ returns-8 c =
     let form = there .before .before in
     let room = form .before .before in
     let given = room .before .before .before .before .args in
-    judged (given .file .now) (given .out .now) (room .before .if1 .left) (room .if2 .left) (passed (form .before .is-well-formed .ensures) (form .if3 .left))
+    all-answered (given .file .now) (given .out .now) (room .before .if1 .left) (room .if2 .left) (passed (form .before .is-well-formed .ensures) (form .if3 .left))
     (passed (there .before .has-volume .ensures) (there .if4 .left)) (is-count (given .file .now) (count .before .plane-count .ensures) (count .if5 .left))
-    (passed (size .before .are-sized .ensures) (size .if6 .left)) _ _ (passed (flag .before .are-flagged .ensures) (flag .if7 .left)) (c .word-32 .ensures) (called .judge .ensures)
+    (passed (size .before .are-sized .ensures) (size .if6 .left)) _ _ (passed (flag .before .are-flagged .ensures) (flag .if7 .left)) (c .word-32 .ensures) (called .file-slots .ensures)
 
 pub farm-file-spec : {M : Type 1} → statement M
 farm-file-spec =
@@ -197,7 +197,7 @@ farm-file-spec =
     returns-6
     are-flagged-requires
     returns-7
-    judge-requires
+    file-slots-requires
     (λ c κs. tt)
     sub-t18
     (λ c. search needs)

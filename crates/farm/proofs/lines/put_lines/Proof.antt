@@ -4,10 +4,9 @@ use mathlib.Core.List.{List, [], _∷_, _++_, map, map-append}
 use Prim.Native.Nat.{ℕ, _+_, _-_, _*_, _<_, _≤_}
 use native.Mathlib.Numerals.{add-one}
 use native.Mathlib.Omega.{arith}
-use borrow.Author.Needs.{needs}
 use lib.ListN.{length, length-map, take, getD}
 use lib.Seq.{take-suc, length-take-le}
-use Rattle.farm.specs.Lines.{line, linesFrom, inserted, isYes}
+use Rattle.farm.specs.Lines.{line, linesFrom, isYes}
 use Rattle.farm.proofs.Texts.{Put, put-then, put-meant, put-length, lines-more, short-line, short-lines}
 use Rattle.farm.proofs.lines.put_lines.Statement.{statement}
 use Rattle.farm.proofs.lines.put_lines.Tie as tie

@@ -1,6 +1,6 @@
 -- `sections::are_flagged` meets its contract: the boxes left decide. Assumes nothing.
-use mathlib.Core.Path.{_≡_, refl, sym, ap, _∙_}
-use mathlib.Core.Bool.{Bool, true, false}
+use mathlib.Core.Path.{_≡_, sym, ap, _∙_}
+use mathlib.Core.Bool.{Bool, true}
 use mathlib.Core.List.{List}
 use Prim.Native.Nat.{ℕ, _+_, _-_, _*_, _/_, _<_, _≤_}
 use native.Mathlib.Omega.{arith}
@@ -14,7 +14,7 @@ use Rattle.number.proofs.Words.{number-at}
 use Rattle.verdict.specs.BBox.{isFlag}
 use Rattle.verdict.specs.BBoxCalls.{flagged}
 use Rattle.farm.specs.declared.directory.Section.{Section}
-use Rattle.farm.specs.Directory.{sectionCount, sectionAt, boxSections, numbersOf}
+use Rattle.farm.specs.Directory.{sectionCount, sectionAt, numbersOf}
 use Rattle.farm.specs.FarmFile.{sized, allFlagged}
 use Rattle.farm.proofs.SectionsLeft.{left, fails, holds, all-hold}
 use Rattle.farm.proofs.Placed.{at-least, at-most, box-sized}

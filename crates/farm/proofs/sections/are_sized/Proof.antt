@@ -1,6 +1,6 @@
 -- `sections::are_sized` meets its contract: the volume's section by its test, the boxes as those left decide. Assumes nothing.
-use mathlib.Core.Path.{_≡_, refl, sym, ap, _∙_}
-use mathlib.Core.Bool.{Bool, true, false, _&&_}
+use mathlib.Core.Path.{_≡_, sym, ap, _∙_}
+use mathlib.Core.Bool.{Bool, false, _&&_}
 use mathlib.Core.List.{List}
 use Prim.Native.Nat.{ℕ, _-_, _*_, _<_, _≤_}
 use native.Mathlib.Omega.{arith}
@@ -11,7 +11,7 @@ use Rattle.number.specs.Limits.{boxLength}
 use Rattle.number.specs.Every.{every}
 use Rattle.verdict.specs.View.{volumeLength}
 use Rattle.farm.specs.declared.directory.Section.{Section}
-use Rattle.farm.specs.Directory.{sectionCount, volumeSection, boxSections}
+use Rattle.farm.specs.Directory.{volumeSection, boxSections}
 use Rattle.farm.specs.FarmFile.{planeCount, sized}
 use Rattle.farm.proofs.SectionsLeft.{left, fails, holds, all-hold}
 use Rattle.farm.proofs.Placed.{at-least, at-most}

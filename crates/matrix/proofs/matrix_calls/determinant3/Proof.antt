@@ -2,7 +2,7 @@
 use mathlib.Core.Path.{ap, _∙_}
 use borrow.Author.Tests.{eq-eqb, ne-eqb}
 use Rattle.matrix.specs.Matrix.{determinant3}
-use Rattle.matrix.specs.Calls.{determinantCall}
+use Rattle.matrix.specs.MatrixCalls.{determinantCall}
 use Rattle.number.proofs.Ways.{no-answer, answered}
 use Rattle.matrix.proofs.matrix_calls.determinant3.Statement.{statement}
 use Rattle.matrix.proofs.matrix_calls.determinant3.Tie as tie

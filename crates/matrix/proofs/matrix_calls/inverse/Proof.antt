@@ -10,7 +10,7 @@ use Rattle.matrix.specs.declared.inverse.Inverted.{Inverted}
 use Rattle.matrix.specs.declared.inverse.Inverted.the-variants.{Matrix}
 use Rattle.matrix.specs.Matrix.{matrixOf}
 use Rattle.matrix.specs.Inverse.{inverseAbove, inverse}
-use Rattle.matrix.specs.Calls.{inverseReply, inverseCall}
+use Rattle.matrix.specs.MatrixCalls.{inverseReply, inverseCall}
 use Rattle.number.proofs.Ways.{no-input, no-room, left, written}
 use Rattle.matrix.proofs.Literals.{singular-bits}
 use Rattle.matrix.proofs.Composed.{adjugate-rows, inverse-from}

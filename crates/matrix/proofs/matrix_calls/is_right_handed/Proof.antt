@@ -2,7 +2,7 @@
 use mathlib.Core.Path.{ap, _∙_}
 use borrow.Author.Tests.{eq-eqb, ne-eqb}
 use Rattle.matrix.specs.Matrix.{rightHanded}
-use Rattle.matrix.specs.Calls.{rightHandedCall}
+use Rattle.matrix.specs.MatrixCalls.{rightHandedCall}
 use Rattle.number.proofs.Ways.{no-answer, answered}
 use Rattle.matrix.proofs.matrix_calls.is_right_handed.Statement.{statement}
 use Rattle.matrix.proofs.matrix_calls.is_right_handed.Tie as tie

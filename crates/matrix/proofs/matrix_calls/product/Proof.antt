@@ -4,7 +4,7 @@ use denote.Ref.{now}
 use borrow.Author.Needs.{needs}
 use borrow.Author.Tests.{eq-eqb, ne-eqb}
 use Rattle.matrix.specs.Matrix.{entries}
-use Rattle.matrix.specs.Calls.{productCall}
+use Rattle.matrix.specs.MatrixCalls.{productCall}
 use Rattle.number.specs.Answer.{write}
 use Rattle.number.proofs.Ways.{both, no-input, no-room, written}
 use Rattle.matrix.proofs.Composed.{product-rows}

@@ -4,7 +4,7 @@ use borrow.Author.Needs.{needs}
 use borrow.Author.Tests.{eq-eqb, ne-eqb}
 use Rattle.matrix.specs.Vec.{coordinates}
 use Rattle.matrix.specs.Transform.{direction}
-use Rattle.matrix.specs.Calls.{directionCall}
+use Rattle.matrix.specs.MatrixCalls.{directionCall}
 use Rattle.number.specs.Answer.{write}
 use Rattle.number.proofs.Ways.{both, no-input, no-room, written}
 use Rattle.matrix.proofs.matrix_calls.transform_dir.Statement.{statement}

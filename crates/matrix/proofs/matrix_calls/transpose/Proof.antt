@@ -3,7 +3,7 @@ use mathlib.Core.Path.{refl, ap, _∙_}
 use borrow.Author.Needs.{needs}
 use borrow.Author.Tests.{eq-eqb, ne-eqb}
 use Rattle.matrix.specs.Matrix.{entries, transpose}
-use Rattle.matrix.specs.Calls.{transposeCall}
+use Rattle.matrix.specs.MatrixCalls.{transposeCall}
 use Rattle.number.specs.Answer.{write}
 use Rattle.number.proofs.Ways.{no-input, no-room, written}
 use Rattle.matrix.proofs.matrix_calls.transpose.Statement.{statement}

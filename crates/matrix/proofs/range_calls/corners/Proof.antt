@@ -5,7 +5,7 @@ use borrow.Author.Tests.{eq-eqb, ne-eqb}
 use lib.ListN.{length}
 use Rattle.matrix.specs.declared.range.Range3d.{Range3d}
 use Rattle.matrix.specs.Range.{corners}
-use Rattle.matrix.specs.Calls.{cornersCall}
+use Rattle.matrix.specs.RangeCalls.{cornersCall}
 use Rattle.number.proofs.Ways.{no-input, no-room, written}
 use Rattle.matrix.proofs.range_calls.corners.Statement.{statement}
 use Rattle.matrix.proofs.range_calls.corners.Tie as tie

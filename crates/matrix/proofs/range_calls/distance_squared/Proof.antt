@@ -2,7 +2,7 @@
 use mathlib.Core.Path.{refl, ap₂, _∙_}
 use borrow.Author.Tests.{eq-eqb, ne-eqb}
 use Rattle.matrix.specs.Range.{distanceSquared}
-use Rattle.matrix.specs.Calls.{distanceSquaredCall}
+use Rattle.matrix.specs.RangeCalls.{distanceSquaredCall}
 use Rattle.number.proofs.Ways.{both, no-answer, answered}
 use Rattle.matrix.proofs.range_calls.distance_squared.Statement.{statement}
 use Rattle.matrix.proofs.range_calls.distance_squared.Tie as tie

@@ -3,7 +3,7 @@ use mathlib.Core.Path.{refl, ap, ap₂, _∙_}
 use borrow.Author.Needs.{needs}
 use borrow.Author.Tests.{eq-eqb, ne-eqb}
 use Rattle.matrix.specs.Range.{bounds, intersection}
-use Rattle.matrix.specs.Calls.{intersectionCall}
+use Rattle.matrix.specs.RangeCalls.{intersectionCall}
 use Rattle.number.specs.Answer.{write}
 use Rattle.number.proofs.Ways.{both, no-input, no-room, written}
 use Rattle.matrix.proofs.range_calls.intersection.Statement.{statement}

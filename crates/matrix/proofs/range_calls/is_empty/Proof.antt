@@ -6,7 +6,7 @@ use borrow.Author.Tests.{eq-eqb, ne-eqb}
 use lib.Ieee.{Float, lt}
 use Rattle.number.proofs.Ways.{no-answer, answered}
 use Rattle.matrix.specs.Range.{rangeOf, emptyAlong}
-use Rattle.matrix.specs.Calls.{isEmptyCall}
+use Rattle.matrix.specs.RangeCalls.{isEmptyCall}
 use Rattle.matrix.proofs.Emptiness.{by-axes}
 use Rattle.matrix.proofs.range_calls.is_empty.Statement.{statement}
 use Rattle.matrix.proofs.range_calls.is_empty.Tie as tie

@@ -4,7 +4,7 @@ use borrow.Author.Needs.{needs}
 use borrow.Author.Tests.{eq-eqb, ne-eqb}
 use Rattle.matrix.specs.Vec.{coordinates}
 use Rattle.matrix.specs.Range.{midpoint}
-use Rattle.matrix.specs.Calls.{midpointCall}
+use Rattle.matrix.specs.RangeCalls.{midpointCall}
 use Rattle.number.specs.Answer.{write}
 use Rattle.number.proofs.Ways.{no-input, no-room, written}
 use Rattle.matrix.proofs.range_calls.midpoint.Statement.{statement}

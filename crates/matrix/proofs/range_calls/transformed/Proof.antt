@@ -3,7 +3,7 @@ use mathlib.Core.Path.{refl, ap, ap₂, _∙_}
 use borrow.Author.Needs.{needs}
 use borrow.Author.Tests.{eq-eqb, ne-eqb}
 use Rattle.matrix.specs.Range.{bounds, transformed}
-use Rattle.matrix.specs.Calls.{transformedCall}
+use Rattle.matrix.specs.RangeCalls.{transformedCall}
 use Rattle.number.specs.Answer.{write}
 use Rattle.number.proofs.Ways.{both, no-input, no-room, written}
 use Rattle.matrix.proofs.Composed.{stays, moves}
@@ -37,7 +37,7 @@ returns-5 c =
     written _ _ _ _ _ _ (both (eq-eqb _ _ (tests .before .before .if1 .left)) (eq-eqb _ _ (tests .before .if2 .left))) (tests .if3 .left) refl (stored .store2 .ensures)
     (ap write (ap bounds
     (moves _ _ _ (full .before .is-empty .ensures) _ (full .if4 .left)
-    (found-moved _ (second .load2 .result) _ _ _ (settled .is-settled .ensures) (tested .if5 .taken) (least .transformed-min .ensures) (greatest .transformed-max .ensures))
+    (found-moved _ (second .load2 .result) _ _ _ (settled .has-nonzero-bounds .ensures) (tested .if5 .taken) (least .transformed-min .ensures) (greatest .transformed-max .ensures))
     ∙ ap₂ transformed (first .load .ensures) (second .load2 .ensures))))
 
 returns-6 : tie.Need-returns-6

@@ -3,7 +3,7 @@ use mathlib.Core.Path.{refl, ap, ap₂, _∙_}
 use borrow.Author.Needs.{needs}
 use borrow.Author.Tests.{eq-eqb, ne-eqb}
 use Rattle.matrix.specs.Range.{bounds, union}
-use Rattle.matrix.specs.Calls.{unionCall}
+use Rattle.matrix.specs.RangeCalls.{unionCall}
 use Rattle.number.specs.Answer.{write}
 use Rattle.number.proofs.Ways.{both, no-input, no-room, written}
 use Rattle.matrix.proofs.Composed.{yields-second, yields-first, unites}
@@ -54,7 +54,7 @@ returns-6 c =
     let tests = first .before in
     written _ _ _ _ _ _ (both (eq-eqb _ _ (tests .before .before .if1 .left)) (eq-eqb _ _ (tests .before .if2 .left))) (tests .if3 .left) refl (stored .store3 .ensures)
     (ap write (ap bounds (unites _ _ _ (empty .is-empty .ensures) _ (empty2 .is-empty2 .ensures) (test .if4 .left) _ (test2 .if5 .left)
-    (found-outward _ _ _ _ (found .outward .ensures) (settled .is-settled .ensures) (test3 .if6 .taken))
+    (found-outward _ _ _ _ (found .outward .ensures) (settled .has-nonzero-bounds .ensures) (test3 .if6 .taken))
     ∙ ap₂ union (first .load .ensures) (second .load2 .ensures))))
 
 returns-7 : tie.Need-returns-7

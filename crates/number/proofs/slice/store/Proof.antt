@@ -1,5 +1,5 @@
 -- `number::slice::store` meets its contract by what it calls. Assumes nothing.
-use mathlib.Core.Path.{_≡_, sym, _∙_}
+use mathlib.Core.Path.{sym, _∙_}
 use borrow.Author.Needs.{needs}
 use Rattle.number.proofs.Stores.{other-length, same-room, stored-all}
 use Rattle.number.proofs.slice.store.Statement.{statement}

@@ -2,7 +2,7 @@
 use mathlib.Core.Path.{refl, ap₂, _∙_}
 use borrow.Author.Tests.{eq-eqb, ne-eqb}
 use Rattle.verdict.specs.Plane.{distanceTo}
-use Rattle.verdict.specs.Calls.{distanceCall}
+use Rattle.verdict.specs.PlaneCalls.{distanceCall}
 use Rattle.number.proofs.Ways.{both, no-answer, answered}
 use Rattle.verdict.proofs.plane_calls.distance.Statement.{statement}
 use Rattle.verdict.proofs.plane_calls.distance.Tie as tie

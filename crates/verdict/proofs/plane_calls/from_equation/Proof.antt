@@ -5,7 +5,7 @@ use borrow.Author.Tests.{eq-eqb, ne-eqb}
 use Rattle.number.specs.Answer.{write}
 use Rattle.verdict.specs.declared.plane.Plane.{Plane}
 use Rattle.verdict.specs.Plane.{numbers, fromEquation}
-use Rattle.verdict.specs.Calls.{fromEquationCall}
+use Rattle.verdict.specs.PlaneCalls.{fromEquationCall}
 use Rattle.number.proofs.Ways.{no-input, no-room, written}
 use Rattle.verdict.proofs.plane_calls.from_equation.Statement.{statement}
 use Rattle.verdict.proofs.plane_calls.from_equation.Tie as tie

@@ -5,7 +5,7 @@ use borrow.Author.Tests.{eq-eqb, ne-eqb}
 use Rattle.number.specs.Answer.{write}
 use Rattle.verdict.specs.declared.plane.Plane.{Plane}
 use Rattle.verdict.specs.Plane.{numbers, fromPoints}
-use Rattle.verdict.specs.Calls.{fromPointsCall}
+use Rattle.verdict.specs.PlaneCalls.{fromPointsCall}
 use Rattle.number.proofs.Ways.{both, no-input, no-room, written}
 use Rattle.verdict.proofs.Same.{same-three}
 use Rattle.verdict.proofs.plane_calls.from_points.Statement.{statement}

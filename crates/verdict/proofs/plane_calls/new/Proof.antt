@@ -5,7 +5,7 @@ use borrow.Author.Tests.{eq-eqb, ne-eqb}
 use Rattle.number.specs.Answer.{write}
 use Rattle.verdict.specs.declared.plane.Plane.{Plane}
 use Rattle.verdict.specs.Plane.{numbers, facing}
-use Rattle.verdict.specs.Calls.{newPlaneCall}
+use Rattle.verdict.specs.PlaneCalls.{newPlaneCall}
 use Rattle.number.proofs.Ways.{no-input, no-room, written}
 use Rattle.verdict.proofs.plane_calls.new.Statement.{statement}
 use Rattle.verdict.proofs.plane_calls.new.Tie as tie

@@ -2,7 +2,7 @@
 use mathlib.Core.Path.{refl, ap₂, _∙_}
 use borrow.Author.Tests.{eq-eqb, ne-eqb}
 use Rattle.verdict.specs.Plane.{onPositiveSide}
-use Rattle.verdict.specs.Calls.{sideCall}
+use Rattle.verdict.specs.PlaneCalls.{sideCall}
 use Rattle.number.proofs.Ways.{both, no-answer, answered}
 use Rattle.verdict.proofs.plane_calls.on_positive_side.Statement.{statement}
 use Rattle.verdict.proofs.plane_calls.on_positive_side.Tie as tie

@@ -3,7 +3,7 @@ use mathlib.Core.Path.{refl, sym, ap₂, _∙_}
 use borrow.Author.Needs.{needs}
 use borrow.Author.Tests.{eq-eqb, ne-eqb}
 use Rattle.verdict.specs.Plane.{transformed, transformedNumbers}
-use Rattle.verdict.specs.Calls.{transformedPlaneCall}
+use Rattle.verdict.specs.PlaneCalls.{transformedPlaneCall}
 use Rattle.number.proofs.Ways.{both, no-input, no-room, left, written, same-reply}
 use Rattle.verdict.proofs.plane_calls.transformed.Statement.{statement}
 use Rattle.verdict.proofs.plane_calls.transformed.Tie as tie

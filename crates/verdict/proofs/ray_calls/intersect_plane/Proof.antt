@@ -9,7 +9,7 @@ use Rattle.number.specs.Answer.{write, replied}
 use Rattle.verdict.specs.declared.ray.PlaneHit.{PlaneHit}
 use Rattle.verdict.specs.declared.ray.PlaneHit.the-variants.{At}
 use Rattle.verdict.specs.Ray.{frontFlag, planeHit, planeHitNumbers}
-use Rattle.verdict.specs.Calls.{planeHitCall}
+use Rattle.verdict.specs.RayCalls.{planeHitCall}
 use Rattle.number.proofs.Ways.{both, no-input, no-room, left, written, same-reply}
 use Rattle.verdict.proofs.ray_calls.intersect_plane.Statement.{statement}
 use Rattle.verdict.proofs.ray_calls.intersect_plane.Tie as tie

@@ -11,7 +11,7 @@ use Rattle.verdict.specs.declared.ray.Ray.{Ray}
 use Rattle.verdict.specs.declared.ray.TriangleHit.{TriangleHit}
 use Rattle.verdict.specs.declared.ray.TriangleHit.the-variants.{Hit}
 use Rattle.verdict.specs.Ray.{frontFlag, triangleHit, triangleHitNumbers}
-use Rattle.verdict.specs.Calls.{triangleHitCall}
+use Rattle.verdict.specs.RayCalls.{triangleHitCall}
 use Rattle.number.proofs.Ways.{both, no-input, no-room, left, written, same-reply}
 use Rattle.verdict.proofs.ray_calls.intersect_triangle.Statement.{statement}
 use Rattle.verdict.proofs.ray_calls.intersect_triangle.Tie as tie

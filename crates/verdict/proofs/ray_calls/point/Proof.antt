@@ -6,7 +6,7 @@ use Rattle.matrix.specs.declared.vec.Vec3d.{Vec3d}
 use Rattle.matrix.specs.Vec.{coordinates}
 use Rattle.number.specs.Answer.{write}
 use Rattle.verdict.specs.Ray.{pointAt}
-use Rattle.verdict.specs.Calls.{pointCall}
+use Rattle.verdict.specs.RayCalls.{pointCall}
 use Rattle.number.proofs.Ways.{no-input, no-room, written}
 use Rattle.verdict.proofs.ray_calls.point.Statement.{statement}
 use Rattle.verdict.proofs.ray_calls.point.Tie as tie

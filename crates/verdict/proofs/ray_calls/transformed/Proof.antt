@@ -5,7 +5,7 @@ use borrow.Author.Tests.{eq-eqb, ne-eqb}
 use Rattle.number.specs.Answer.{write}
 use Rattle.verdict.specs.declared.ray.Ray.{Ray}
 use Rattle.verdict.specs.Ray.{numbers, transformed}
-use Rattle.verdict.specs.Calls.{transformedRayCall}
+use Rattle.verdict.specs.RayCalls.{transformedRayCall}
 use Rattle.number.proofs.Ways.{both, no-input, no-room, written}
 use Rattle.verdict.proofs.ray_calls.transformed.Statement.{statement}
 use Rattle.verdict.proofs.ray_calls.transformed.Tie as tie

@@ -15,7 +15,7 @@ returns-2 c =
     let least = greatest .before in
     let tested = least .before in
     moves _ _ _ (tested .before .is-empty .ensures) _ (tested .if1 .left)
-    (found-moved _ (tested .before .before .args .matrix) _ _ _ (settled .is-settled .ensures) (c .if2 .taken) (least .transformed-min .ensures) (greatest .transformed-max .ensures))
+    (found-moved _ (tested .before .before .args .matrix) _ _ _ (settled .has-nonzero-bounds .ensures) (c .if2 .taken) (least .transformed-min .ensures) (greatest .transformed-max .ensures))
 
 returns-3 : tie.Need-returns-3
 returns-3 c =

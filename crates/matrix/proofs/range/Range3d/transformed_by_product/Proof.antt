@@ -27,7 +27,7 @@ returns-2 c =
     let a = tested .before .before .args in
     let e = product-of-rows (a .left) (a .right) _ _ _ _ (r0 .row-product .ensures) (r1 .row-product2 .ensures) (r2 .row-product3 .ensures) (r3 .row-product4 .ensures) in
     moves (a .self) (product (a .left) (a .right)) _ (tested .before .is-empty .ensures) _ (tested .if1 .left)
-    (found-moved (a .self) (product (a .left) (a .right)) _ _ _ (settled .is-settled .ensures) (c .if2 .taken)
+    (found-moved (a .self) (product (a .left) (a .right)) _ _ _ (settled .has-nonzero-bounds .ensures) (c .if2 .taken)
     (least .transformed-min .ensures ∙ ap (λ (m : Mat4d). reached lowerOf (a .self) m) e) (greatest .transformed-max .ensures ∙ ap (λ (m : Mat4d). reached upperOf (a .self) m) e))
 
 returns-3 : tie.Need-returns-3

@@ -30,7 +30,7 @@ returns-3 c =
     let first = test .before in
     let moved = first .before in
     unites _ _ _ (first .is-empty .ensures) _ (second .is-empty2 .ensures) (test .if1 .left) _ (test2 .if2 .left)
-    (found-outward _ _ _ _ (found .outward .ensures) (settled .is-settled .ensures) (c .if3 .taken))
+    (found-outward _ _ _ _ (found .outward .ensures) (settled .has-nonzero-bounds .ensures) (c .if3 .taken))
     ∙ ap (union (moved .before .args .self)) (moved .transformed-by-product .ensures)
 
 returns-4 : tie.Need-returns-4

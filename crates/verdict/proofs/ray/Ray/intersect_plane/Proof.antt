@@ -9,7 +9,7 @@ use Rattle.matrix.proofs.Literals.{zero-bits, min-length-bits}
 use Rattle.verdict.specs.declared.plane.Plane.{Plane}
 use Rattle.verdict.specs.declared.ray.Ray.{Ray}
 use Rattle.verdict.specs.declared.ray.PlaneHit.the-variants.{At, Miss}
-use Rattle.verdict.specs.Ray.{facing, along, planeHit}
+use Rattle.verdict.specs.Ray.{facing, distanceAlong, planeHit}
 use Rattle.verdict.proofs.ray.Ray.intersect_plane.Statement.{statement}
 use Rattle.verdict.proofs.ray.Ray.intersect_plane.Tie as tie
 
@@ -20,7 +20,7 @@ module _ (r : Ray) (p : Plane) (f : Float) (b : Bool) (h : f ≡ facing r p) (i 
 
   module _ (on to : Vec3d) (d : Float) (j : on ≡ multiple (p .normal) (p .distance)) (k : to ≡ difference on (r .start)) (l : d ≡ dot to (p .normal))
       (t : b ≡ false) where
-    reached : d ⊘ f ≡ along r p
+    reached : d ⊘ f ≡ distanceAlong r p
     reached = rw (l, k, j, h)
 
     ahead : le (ofBits binary64 0) (d ⊘ f) ≡ true → At (d ⊘ f) (lt f (ofBits binary64 0)) ≡ planeHit r p

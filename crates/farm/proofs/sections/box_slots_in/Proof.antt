@@ -1,4 +1,4 @@
--- `sections::judge_in` meets its contract by what it calls: the volume's numbers are loaded in front of the room. Assumes nothing.
+-- `sections::box_slots_in` meets its contract by what it calls: the volume's numbers are loaded in front of the room. Assumes nothing.
 use mathlib.Core.Path.{_≡_, sym, ap, _∙_}
 use mathlib.Core.List.{List, _++_}
 use Prim.Native.Nat.{ℕ, _-_, _≤_}
@@ -15,8 +15,8 @@ use Rattle.farm.specs.Directory.{volumeSection, numbersOf}
 use Rattle.farm.specs.FarmFile.{planeCount}
 use Rattle.farm.specs.Steps.{Ready}
 use Rattle.farm.proofs.Slots.{within, volume-length, volume-is}
-use Rattle.farm.proofs.sections.judge_in.Statement.{statement}
-use Rattle.farm.proofs.sections.judge_in.Tie as tie
+use Rattle.farm.proofs.sections.box_slots_in.Statement.{statement}
+use Rattle.farm.proofs.sections.box_slots_in.Tie as tie
 
 -- a room, and the k numbers of the volume of a file with n planes
 module _ (b : List ℕ) (r : Ready b) (room : List Float) (h : volumeLength mostPlanes ≤ length room) (n k : ℕ) (e : n ≡ planeCount b) (q : k ≡ volumeLength n) where
@@ -57,8 +57,8 @@ slice-aggregate-load c =
     let given = start .args in
     sym (as-many (given .file .now) (start .pre .0) (given .room .now) (start .pre .1 .1) _ _ (start .pre .1 .0) (size .volume-length .ensures))
 
-slice-reshare-prefix-judge-boxes : tie.Need-slice-reshare-prefix-judge-boxes
-slice-reshare-prefix-judge-boxes c =
+slice-reshare-prefix-box-slots : tie.Need-slice-reshare-prefix-box-slots
+slice-reshare-prefix-box-slots c =
     let filled = c .before .before in
     let at = filled .before .before .before in
     let size = at .before in
@@ -70,8 +70,8 @@ slice-reshare-prefix-judge-boxes c =
       fits (given .file .now) (start .pre .0) (given .room .now) (start .pre .1 .1) _ _ (start .pre .1 .0) (size .volume-length .ensures),
     )
 
-slice-aggregate-judge-boxes : tie.Need-slice-aggregate-judge-boxes
-slice-aggregate-judge-boxes c =
+slice-aggregate-box-slots : tie.Need-slice-aggregate-box-slots
+slice-aggregate-box-slots c =
     let filled = c .before .before .before in
     let at = filled .before .before .before in
     let size = at .before in
@@ -79,8 +79,8 @@ slice-aggregate-judge-boxes c =
     let given = start .args in
     front-many (given .file .now) (start .pre .0) (given .room .now) (start .pre .1 .1) _ _ (start .pre .1 .0) (size .volume-length .ensures) _ (at .section-at .ensures) _ (filled .load .ensures)
 
-judge-boxes-requires : tie.Need-judge-boxes-requires
-judge-boxes-requires c κs =
+box-slots-requires : tie.Need-box-slots-requires
+box-slots-requires c κs =
     let filled = c .before .before .before .before in
     let at = filled .before .before .before in
     let size = at .before in
@@ -102,8 +102,8 @@ same-length c =
     let given = start .args in
     whole (given .file .now) (start .pre .0) (given .room .now) (start .pre .1 .1) _ _ (start .pre .1 .0) (size .volume-length .ensures) _ (at .section-at .ensures) _ (filled .load .ensures)
 
-pub judge-in-spec : {M : Type 1} → statement M
-judge-in-spec =
+pub box-slots-in-spec : {M : Type 1} → statement M
+box-slots-in-spec =
     tie.close
     (tie.spec
     (λ c κs. tt)
@@ -112,9 +112,9 @@ judge-in-spec =
     slice-relend-prefix-load
     slice-aggregate-load
     (λ c κs. tt)
-    slice-reshare-prefix-judge-boxes
-    slice-aggregate-judge-boxes
-    judge-boxes-requires
+    slice-reshare-prefix-box-slots
+    slice-aggregate-box-slots
+    box-slots-requires
     same-length
     (λ c. search needs)
-    (λ c. c .before .before .judge-boxes .ensures))
+    (λ c. c .before .before .box-slots .ensures))
