@@ -10,7 +10,7 @@ use mathlib.Core.Bool.{Bool, true, false, cond}
 use lib.Dec.{T, eqb, eqb→eq}
 use lib.IntN.{ℤ, pos, negsuc, negℤ, natAbs, _+ℤ_, _-ℤ_, _*ℤ_}
 use lib.Signed.{_≤ℤ_, _<ℤ_}
-use lib.Ieee.{Float, nan, inf, fin, Format, binary64, prec, up, down, unlike, round, ofInt, add, sub, mul, div, neg, lt, eq, le}
+use lib.Ieee.{Float, nan, inf, fin, Format, binary64, prec, up, down, unlike, round, ofInt, add, sub, mul, div, neg, lt, eq, le, isNan}
 use lib.Ieee.Fits.{down-pos}
 use lib.Ieee.Exact.{HasValue}
 use lib.Ieee.Back.{round-whole}
@@ -22,7 +22,7 @@ use Rattle.farmgrid.proofs.Integer.{hi, lo, Of, of-self, of-pos, of-neg
 use Rattle.farmgrid.proofs.Integer.{by-test, le-is, lt-is, eq-is, abs-is, abs-neg, abs-times}
 use Rattle.farmgrid.proofs.Integer.{minℤ, maxℤ, min-left, min-right, max-left, max-right}
 use Rattle.farmgrid.proofs.Value.{At, Minus, Within, at-of, of-at, neg-at, add-at, sub-at, mul-at}
-use Rattle.farmgrid.proofs.Compare.{lt-at, le-at, eq-at, min-at, max-at}
+use Rattle.farmgrid.proofs.Compare.{lt-at, le-at, eq-at, min-at, max-at, at-not-nan}
 
 -- a float is the integer z = p - q exactly where its value is (p - q) / 1
 pub whole-at : {x : Float} {p q : ℕ} {z : ℤ} → Of p q z → Whole x z ↔ At x p q 1
@@ -81,6 +81,10 @@ module _ {x y : Float} {a b : ℤ} (g : Whole x a) (h : Whole y b) where
   pub max-whole : Whole (maxOf x y) (maxℤ a b)
   max-whole = max-at (λ z. Whole z (maxℤ a b)) one (value g) (value h)
       (λ t. rw (max-right (le-whole g h .0 t)) h) (λ t. rw (max-left (le-whole h g .0 t)) g)
+
+-- a whole float is no NaN
+pub whole-not-nan : {x : Float} {z : ℤ} → Whole x z → isNan x ≡ false
+whole-not-nan h = at-not-nan (value h)
 
 -- ---- a whole float by its sign and its size, as the kit's `HasValue` has them; a zero has either sign
 of-signed : (s : Bool) (k : ℕ) → Of (cond s 0 k) (cond s k 0) (signed s k)

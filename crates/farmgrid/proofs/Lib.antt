@@ -38,6 +38,9 @@ pub mod Counts
 pub mod Answers
 pub mod Verdicts
 pub mod MorePlanes
+-- the nearest range
+pub mod RangeDistance
+pub mod Nearest
 -- surveys
 pub mod Survey
 -- turns

@@ -4,7 +4,7 @@ use mathlib.Core.Bool.{Bool}
 use mathlib.Core.List.{List}
 use Prim.Native.Nat.{ℕ}
 use lib.Ieee.{Float}
-use Rattle.number.specs.Answer.{Reply, Outcome, Lone, answered, reply, statusOf, put, putVerdict}
+use Rattle.number.specs.Answer.{Reply, Outcome, Lone, answered, reply, statusOf, put, putVerdict, Found, putPlace}
 use Rattle.number.specs.declared.answer.Written.{Written}
 
 pub with-status : (n : ℕ) (a : Written) (out : List Float) (r : Reply Float) → n ≡ statusOf a → reply a out ≡ r → answered n out ≡ r
@@ -15,3 +15,6 @@ with-number x o call before e f = e ∙ ap (λ (c : Outcome Float). put c before
 
 pub with-verdict : (x : Lone ℕ) (o call : Outcome Bool) (before : ℕ) → x ≡ putVerdict o before → o ≡ call → x ≡ putVerdict call before
 with-verdict x o call before e f = e ∙ ap (λ (c : Outcome Bool). putVerdict c before) f
+
+pub with-place : (x : Lone ℕ) (o call : Outcome Found) (before : ℕ) → x ≡ putPlace o before → o ≡ call → x ≡ putPlace call before
+with-place x o call before e f = e ∙ ap (λ (c : Outcome Found). putPlace c before) f

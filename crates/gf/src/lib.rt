@@ -5,6 +5,7 @@ pub mod farm_calls;
 pub mod frustum_calls;
 pub mod group_calls;
 pub mod matrix_calls;
+pub mod nearest_calls;
 pub mod number_calls;
 pub mod plane_calls;
 pub mod projection_calls;
