@@ -4,13 +4,13 @@
  * function is proved to meet its contract (crates/gf/src), for all lengths and all numbers. The functions keep nothing from
  * call to call, so that threads may call them at once.
  *
- * What is lent. A slice is two parameters: a pointer, and a length counted in what it points to: numbers (double), and in
- * gf_farm_file bytes and slots. The caller owes, and nothing tests:
+ * What is lent. A slice is two parameters: a pointer, and a length counted in what it points to: numbers (double), the bytes of
+ * a farm file, or slots (uint32_t). The caller owes, and nothing tests:
  *
  *   - a pointer is not null, even where its length is 0; it is aligned for what it points to, and points to at least as many
  *     numbers as the length says, or to one where it has no length beside it;
- *   - the memory lent for a result, `out`, overlaps nothing else that is lent in the call. Slices lent for reading may overlap
- *     or be the same;
+ *   - the memory lent for a result, `out`, and in some calls a count or a place besides, overlaps nothing else that is lent in
+ *     the call. Slices lent for reading may overlap or be the same;
  *   - nobody else writes any of that memory during the call;
  *   - the processor rounds to nearest and keeps subnormal numbers, as it does when a program starts. A program that gcc links
  *     with -ffast-math does not keep them.
@@ -18,8 +18,8 @@
  * What comes back. A function that can refuse returns a status: 0, or the number of its refusal.
  *
  *   0  done: the result is in `out`
- *   1  an input slice's length differs from its record
- *   2  the output slice's length differs from its record
+ *   1  an input slice's length differs from its record; there is no range, or more than GF_MOST_RANGES
+ *   2  the output slice's length differs from its record, or has not a slot for each range
  *   3  a kind or a flag is outside its named values; a zero of either sign counts as 0
  *   4  a matrix is singular
  *   5  a miss
@@ -31,10 +31,11 @@
  *   11 a group of boxes is empty, or has more numbers than 256 boxes
  *   12 a volume's count of planes is not whole, or outside GF_FEWEST_PLANES to GF_MOST_PLANES
  *
- * With status 0 all of `out` is written. Every refusal leaves `out` unchanged. Slices lent for reading are never written.
- * Where more than one refusal applies, the one that "Refuses" lists first is returned. A result of several numbers goes into a
- * slice, `double *out, size_t out_len`. A lone number goes into one `double *out`, a yes or no into one `uint32_t *out`, 1 for
- * yes and 0 for no; these have no length, so no 2 is given.
+ * With status 0 all that is lent for a result is written. Every refusal leaves all of it unchanged. Slices lent for reading
+ * are never written. Where more than one refusal applies, the one that "Refuses" lists first is returned. A result of several
+ * numbers goes into a slice, `double *out, size_t out_len`. A lone number goes into one `double *out`, a yes or no into one
+ * `uint32_t *out`, 1 for yes and 0 for no, and a place or a count into one `uint32_t`; these have no length, so no 2 is given.
+ * Places count from 0; none is GF_NO_PLACE, which also fills slots that are not used.
  *
  * NaN and infinities may stand anywhere, and the arithmetic is that of IEEE 754. A comparison with a NaN is false: a NaN
  * distance is on no plane's positive side, a NaN alone does not make a range empty, a NaN flag or kind is refused with 3, a
@@ -70,6 +71,10 @@
 /* The limits of a volume's count of planes. */
 #define GF_FEWEST_PLANES 6
 #define GF_MOST_PLANES 32
+
+/* The most ranges of a call that takes several, and no place. */
+#define GF_MOST_RANGES 1024
+#define GF_NO_PLACE 4294967295u
 
 #ifdef __cplusplus
 extern "C" {
@@ -156,6 +161,23 @@ uint32_t gf_range_transformed(const double *range, size_t range_len, const doubl
  * bit 1 is, the greatest z where bit 2 is, and the least elsewhere.
  * In: range 6. Out: 24 numbers. Refuses: 1, 2. */
 uint32_t gf_range_corners(const double *range, size_t range_len, double *out, size_t out_len);
+
+/* ---- several ranges: from 1 to GF_MOST_RANGES of them, one behind another. Distances are squared, as gf_range_distance_squared
+ * gives them, and are those to the ranges as they are lent, aligned to the axes: of a placed box lend what gf_bbox_aligned_range
+ * writes. An empty range has no distance and is passed over. An infinite distance is one like any other. A NaN adds none, as a
+ * coordinate of p along its axis and as a bound of a range on its side, so that no distance is a NaN, and that to a range of six
+ * NaN, or from a p of three, is 0. 1: there is no number of a range, there are more than 6144 or not a multiple of 6, or p has
+ * not 3 */
+
+/* The place of the range that is nearest to p, the first of those that are equally near; GF_NO_PLACE where all are empty.
+ * In: ranges 6 each, p 3. Out: a place. Refuses: 1. */
+uint32_t gf_range_nearest(const double *ranges, size_t ranges_len, const double *p, size_t p_len, uint32_t *place);
+
+/* The places of all ranges whose squared distance from p is at most limit, rising, in the slots in front; the slots behind them
+ * hold GF_NO_PLACE. found is how many there are. A limit of -0 is as 0; one below, and a NaN, finds none, and an infinite one all
+ * that are not empty. 2: out has not a slot for each range.
+ * In: ranges 6 each, p 3, and the number limit, a square. Out: a slot for each range, and the number found. Refuses: 1, 2. */
+uint32_t gf_range_within(const double *ranges, size_t ranges_len, const double *p, size_t p_len, double limit, uint32_t *out, size_t out_len, uint32_t *found);
 
 /* ---- planes: one that is lent is taken as it is, its normal of any length */
 

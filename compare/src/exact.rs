@@ -66,6 +66,25 @@ pub fn placed_box(planes: &[WholePlane], [from, to]: [Whole; 2]) -> bool {
     (0..3).all(|i| least[i].max(from[i]) <= greatest[i].min(to[i]))
 }
 
+/// The square of the distance from a point to a range, from its least to its
+/// greatest corner; nothing where the range is empty.
+pub fn square_to(&[low, high]: &[Whole; 2], p: Whole) -> Option<i64> {
+    let outside = |i: usize| (low[i] - p[i]).max(p[i] - high[i]).max(0);
+    (0..3).all(|i| low[i] <= high[i]).then(|| (0..3).map(|i| outside(i) * outside(i)).sum())
+}
+
+/// The first place whose square is the least, if any range is not empty.
+pub fn nearest(ranges: &[[Whole; 2]], p: Whole) -> Option<usize> {
+    let squares: Vec<Option<i64>> = ranges.iter().map(|range| square_to(range, p)).collect();
+    let least = squares.iter().flatten().min()?;
+    squares.iter().position(|square| square.as_ref() == Some(least))
+}
+
+/// The places whose squares are at most `limit`, rising.
+pub fn within(ranges: &[[Whole; 2]], p: Whole, limit: i64) -> Vec<usize> {
+    (0..ranges.len()).filter(|&i| square_to(&ranges[i], p).is_some_and(|square| square <= limit)).collect()
+}
+
 #[cfg(test)]
 mod tests {
     use super::*;

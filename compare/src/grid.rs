@@ -1,9 +1,10 @@
-//! The farm grid by a second judge, exact whole numbers: verdicts, turns and
-//! combining. The Rust is judged as the archive is.
+//! The farm grid by a second judge, exact whole numbers: verdicts, turns,
+//! combining, and what is nearest. The Rust is judged as the archive is.
 
 use crate::exact;
 use crate::inputs::{self, FarmBox, Rng, Turn, Whole, WholePlane, among_others, farm_volume, floats, on_grid};
-use crate::lent::{Lent, Side};
+use crate::judge::NO_PLACE;
+use crate::lent::{Ins, Lent, Side};
 use crate::op::Op;
 use crate::trial::{Outcome, Trial};
 use std::fmt::Debug;
@@ -19,9 +20,11 @@ enum Ask {
     Combine,
     AlignedRange,
     Group,
+    Nearest,
+    Within,
 }
 
-const NAMES: [&str; 8] = [
+const NAMES: [&str; 10] = [
     "intersects_point",
     "intersects_segment",
     "intersects_bbox",
@@ -30,6 +33,8 @@ const NAMES: [&str; 8] = [
     "bbox_combine",
     "bbox_aligned_range",
     "bbox_combine_group",
+    "range_nearest",
+    "range_within",
 ];
 
 /// One who answers: the Rust, or the archive.
@@ -40,11 +45,32 @@ struct Engine<'a> {
 
 impl Engine<'_> {
     fn call(&self, ask: Ask, records: &[&[f64]], out: Lent) -> Result<(), String> {
-        let ins = Lent::all(records);
-        match self.functions[ask as usize].expect("asked only if exported").call(&ins, out) {
+        self.lend(ask, &Lent::all(records), out)
+    }
+
+    fn lend(&self, ask: Ask, ins: &Ins, out: Lent) -> Result<(), String> {
+        match self.functions[ask as usize].expect("asked only if exported").call(ins, out) {
             0 => Ok(()),
             refusal => Err(format!("{} of {} is refused: {refusal}", NAMES[ask as usize], self.who)),
         }
+    }
+
+    /// The place that is nearest.
+    fn nearest(&self, ranges: &[f64], p: &[f64]) -> Result<u32, String> {
+        let mut place = [0.0];
+        self.call(Ask::Nearest, &[ranges, p], Lent::to_write(&mut place))?;
+        Ok(place[0].to_bits() as u32)
+    }
+
+    /// How many are within a distance, and the slots.
+    fn within(&self, ranges: &[f64], p: &[f64], limit: f64) -> Result<(u32, Vec<u32>), String> {
+        let mut found = [0.0];
+        let mut slots = vec![0; ranges.len() / 6];
+        let limit = [limit];
+        let mut ins = Lent::all(&[ranges, p, &limit]);
+        ins[3] = Lent { at: slots.as_mut_ptr().cast(), len: slots.len() };
+        self.lend(Ask::Within, &ins, Lent::to_write(&mut found))?;
+        Ok((found[0].to_bits() as u32, slots))
     }
 
     fn numbers<const N: usize>(&self, ask: Ask, records: &[&[f64]]) -> Result<[f64; N], String> {
@@ -104,6 +130,8 @@ pub fn all(ops: &[Box<dyn Op>]) -> Vec<Farm<'_>> {
         farm("combined boxes", &[Ask::Combine, Ask::AlignedRange], combined),
         farm("grouped boxes", &[Ask::Group, Ask::AlignedRange], grouped),
         farm("members of groups", &[Ask::Group, Ask::Box], members),
+        farm("nearest ranges", &[Ask::Nearest], nearest),
+        farm("ranges within", &[Ask::Within], within),
     ]
 }
 
@@ -281,6 +309,50 @@ fn members(engines: &[Engine], _: u64, rng: &mut Rng) -> Result<usize, String> {
         kind = outcome(verdict);
     }
     Ok(kind)
+}
+
+/// Ranges and a point as they are lent.
+fn lent(rng: &mut Rng, ranges: &[[Whole; 2]], p: Whole) -> (Vec<f64>, [f64; 3]) {
+    let numbers = ranges.as_flattened().as_flattened().iter().map(|&x| inputs::float_of(rng, x)).collect();
+    (numbers, p.map(|x| inputs::float_of(rng, x)))
+}
+
+fn nearest(engines: &[Engine], _: u64, rng: &mut Rng) -> Result<usize, String> {
+    let (ranges, p) = inputs::farm_report(rng);
+    let exact = exact::nearest(&ranges, p);
+    let (numbers, at) = lent(rng, &ranges, p);
+    for engine in engines {
+        let place = engine.nearest(&numbers, &at)?;
+        engine.expect("the nearest range", place, exact.map_or(NO_PLACE, |i| i as u32), &(&ranges, p))?;
+    }
+    Ok(if exact.is_some() { Outcome::PLACE } else { Outcome::NONE })
+}
+
+/// A square, mostly that of one of the ranges or next to it.
+fn limit(rng: &mut Rng, ranges: &[[Whole; 2]], p: Whole) -> i64 {
+    let of_one = exact::square_to(&ranges[rng.below(ranges.len() as u64) as usize], p).unwrap_or(0);
+    match rng.below(8) {
+        0..4 => of_one,
+        4 => of_one - 1,
+        5 => of_one + 1,
+        6 => 0,
+        _ => rng.whole(1 << 36),
+    }
+}
+
+fn within(engines: &[Engine], _: u64, rng: &mut Rng) -> Result<usize, String> {
+    let (ranges, p) = inputs::farm_report(rng);
+    let limit = limit(rng, &ranges, p);
+    let exact = exact::within(&ranges, p, limit);
+    let mut slots: Vec<u32> = exact.iter().map(|&i| i as u32).collect();
+    slots.resize(ranges.len(), NO_PLACE);
+    let (numbers, at) = lent(rng, &ranges, p);
+    let square = inputs::float_of(rng, limit);
+    for engine in engines {
+        let left = engine.within(&numbers, &at, square)?;
+        engine.expect("the ranges within", left, (exact.len() as u32, slots.clone()), &(&ranges, p, limit))?;
+    }
+    Ok(if exact.is_empty() { Outcome::NONE } else { Outcome::PLACE })
 }
 
 impl Trial for Farm<'_> {

@@ -2,7 +2,8 @@
 //! of each in their order, the limits that it names.
 
 use crate::farm::FarmFiles;
-use crate::judge::{FEWEST_PLANES, MOST_PLANES};
+use crate::inputs::MOST_RANGES;
+use crate::judge::{FEWEST_PLANES, MOST_PLANES, NO_PLACE};
 use crate::ops;
 use crate::trial::Trial;
 use std::collections::BTreeMap;
@@ -49,9 +50,12 @@ fn each_function_refuses_in_the_order_of_the_header() {
 }
 
 #[test]
-fn the_header_names_the_limits_of_planes() {
+fn the_header_names_the_limits() {
     let header = header();
-    for (name, limit) in [("GF_FEWEST_PLANES", FEWEST_PLANES), ("GF_MOST_PLANES", MOST_PLANES)] {
+    let limits =
+        [("GF_FEWEST_PLANES", FEWEST_PLANES), ("GF_MOST_PLANES", MOST_PLANES), ("GF_MOST_RANGES", MOST_RANGES)];
+    for (name, limit) in limits {
         assert!(header.contains(&format!("#define {name} {limit}\n")), "{name} is {limit}");
     }
+    assert!(header.contains(&format!("#define GF_NO_PLACE {NO_PLACE}u\n")), "no place is {NO_PLACE}");
 }

@@ -29,6 +29,9 @@ pub const GROUP_SIZE: u32 = 11;
 /// A count of planes that is not whole, or outside its limits.
 pub const NO_COUNT: u32 = 12;
 
+/// No place, and what fills a slot that is not used.
+pub const NO_PLACE: u32 = u32::MAX;
+
 /// How many planes a volume has at least and at most.
 pub const FEWEST_PLANES: usize = 6;
 pub const MOST_PLANES: usize = 32;

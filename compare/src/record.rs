@@ -38,6 +38,7 @@ pub fn write_files(files: &mut dyn Write, lines: &mut dyn Write) -> io::Result<u
 #[cfg(test)]
 mod tests {
     use super::*;
+    use crate::judge::NO_PLACE;
     use crate::ops;
     use std::collections::BTreeSet;
     use std::fs;
@@ -66,12 +67,25 @@ mod tests {
                 217 => &[6],
                 223 => &[4, 6, 8],
                 224 => &[3, 11],
+                225 | 226 => &[1],
                 _ => &[],
             };
             assert_eq!(statuses, refusals.iter().copied().chain([0]).collect(), "{}", op.name());
             if matches!(op.code(), 109 | 110 | 210 | 218..=222) {
                 assert!(seen.contains(&(0, Some(0))) && seen.contains(&(0, Some(1))), "{}", op.name());
             }
+        }
+    }
+
+    /// A place and none, of the nearest and of a list.
+    #[test]
+    fn a_place_and_none_are_recorded() {
+        for (code, none) in [(225, u64::from(NO_PLACE)), (226, 0)] {
+            let op = ops::all().into_iter().find(|op| op.code() == code).expect("there is one");
+            let vectors = op.vectors();
+            let answered = vectors.iter().map(|words| &words[1 + words[0] as usize..]).filter(|words| words[0] == 0);
+            let (nothing, places): (Vec<_>, Vec<_>) = answered.partition(|words| words[2] == none);
+            assert!(nothing.len() >= 5 && places.len() >= 20, "{}", op.name());
         }
     }
 

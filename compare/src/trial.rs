@@ -7,7 +7,7 @@ use std::ops::Range;
 pub struct Outcome;
 
 impl Outcome {
-    pub const NAMES: [&'static str; 20] = [
+    pub const NAMES: [&'static str; 22] = [
         "done",
         "refused 1",
         "refused 2",
@@ -28,11 +28,15 @@ impl Outcome {
         "normal",
         "infinite",
         "NaN",
+        "a place",
+        "none",
     ];
     pub const NO: usize = 13;
     pub const YES: usize = 14;
     /// The first of the kinds of number.
     pub const NUMBER: usize = 15;
+    pub const PLACE: usize = 20;
+    pub const NONE: usize = 21;
 }
 
 /// How many differing cases are described.

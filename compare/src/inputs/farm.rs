@@ -348,6 +348,57 @@ pub fn placed_together(boxes: &[FarmBox]) -> [Whole; 2] {
     [extreme(0, i64::min), extreme(1, i64::max)]
 }
 
+/// A range with grid corners about a point, or anywhere; one in eight is
+/// empty.
+fn farm_range(rng: &mut Rng, p: Whole) -> [Whole; 2] {
+    if rng.once_in(4) {
+        return farm_box(rng).placed();
+    }
+    let size = rng.pick(&[2, 4, 30, 5000, COORDINATE]);
+    let mut near = || -> Whole { array::from_fn(|i| (p[i] + rng.whole(size)).clamp(-COORDINATE, COORDINATE)) };
+    let (a, b) = (near(), near());
+    let (mut low, mut high): (Whole, Whole) = (array::from_fn(|i| a[i].min(b[i])), array::from_fn(|i| a[i].max(b[i])));
+    if rng.once_in(8) {
+        let i = rng.below(3) as usize;
+        (low[i], high[i]) = (high[i], low[i]);
+    }
+    [low, high]
+}
+
+/// A range turned about a point, or mirrored there, which is as near to it; the
+/// range itself where that is off the grid.
+fn as_near(rng: &mut Rng, range: [Whole; 2], p: Whole) -> [Whole; 2] {
+    let turn = Turn::numbered(rng.below(Turn::COUNT));
+    let moved = range.map(|corner| -> Whole {
+        let turned = turn.direction(array::from_fn(|i| corner[i] - p[i]));
+        array::from_fn(|i| p[i] + turned[i])
+    });
+    // Least and greatest change places along the axes that are mirrored.
+    let mirrored = turn.direction([1; 3]).map(|x| x < 0);
+    let [low, high]: [Whole; 2] =
+        array::from_fn(|of| array::from_fn(|i| moved[if mirrored[i] { 1 - of } else { of }][i]));
+    if on_grid(low) && on_grid(high) { [low, high] } else { range }
+}
+
+/// Ranges with grid corners, of which many are as near to a grid point as
+/// others.
+pub fn farm_report(rng: &mut Rng) -> (Vec<[Whole; 2]>, Whole) {
+    let size = if rng.once_in(512) { 1 + rng.below(MOST_RANGES as u64) } else { 1 + rng.below(12) };
+    let p = grid_point(rng);
+    let mut ranges: Vec<[Whole; 2]> = vec![farm_range(rng, p)];
+    while ranges.len() < size as usize {
+        let before = ranges[rng.below(ranges.len() as u64) as usize];
+        let next = if rng.once_in(2) { as_near(rng, before, p) } else { farm_range(rng, p) };
+        ranges.push(next);
+    }
+    (ranges, p)
+}
+
+/// A whole number as a float; a zero has either sign.
+pub fn float_of(rng: &mut Rng, x: i64) -> f64 {
+    if x == 0 { zero(rng) } else { x as f64 }
+}
+
 /// Axis planes about a grid box; three in four times they share a point.
 pub fn farm_box_view(rng: &mut Rng) -> ([WholePlane; 6], FarmBox) {
     let farm_box = farm_box(rng);

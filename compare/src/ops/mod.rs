@@ -5,6 +5,7 @@ mod bbox;
 mod camera;
 mod group;
 mod matrix;
+mod nearest;
 mod number;
 mod plane;
 mod projection;
@@ -26,6 +27,7 @@ pub fn all() -> Vec<Box<dyn Op>> {
         verdict::all(),
         camera::all(),
         group::all(),
+        nearest::all(),
     ];
     files.into_iter().flatten().collect()
 }
@@ -35,6 +37,6 @@ mod tests {
     #[test]
     fn codes_are_in_the_order_of_the_functions() {
         let codes: Vec<u64> = super::all().iter().map(|op| op.code()).collect();
-        assert_eq!(codes, (1..=7).chain(101..=116).chain(201..=224).collect::<Vec<u64>>());
+        assert_eq!(codes, (1..=7).chain(101..=116).chain(201..=226).collect::<Vec<u64>>());
     }
 }
