@@ -1,8 +1,10 @@
-// The operations of the crates `number`, codes from 1, `matrix`, from 101, `verdict`, from 201, `camera`, 223, and `group`, 224.
+// The operations of the crates `number`, codes from 1, `matrix`, from 101, `verdict`, from 201, `camera`, 223, `group`, 224, and `nearest`,
+// 225 and 226.
 ghost use Prim.Native.Nat.{_<_};
 use crate::camera_operations;
 use crate::group_operations;
 use crate::matrix_operations;
+use crate::nearest_operations;
 use crate::number_operations;
 use crate::verdict_operations;
 use replay::inputs::first;
@@ -21,6 +23,9 @@ pub(crate) fn lengths(code: u64, given: usize) -> [u8; 5] {
     }
     if code == 224 {
         return group_operations::lengths(given);
+    }
+    if (code == 225) | (code == 226) {
+        return nearest_operations::lengths(code, given);
     }
     camera_operations::lengths(code)
 }
@@ -63,6 +68,9 @@ pub(crate) fn call(code: u64, given: &[f64], lengths: [u8; 5], out: &mut [f64]) 
     }
     if code == 224 {
         return group_operations::call(a, out);
+    }
+    if (code == 225) | (code == 226) {
+        return nearest_operations::call(code, a, b, c, out);
     }
     camera_operations::call(a, b, c, out)
 }

@@ -1,9 +1,10 @@
 // Replays answers recorded from Rust. For each operation the program writes how many of its records the
-// crates `number`, `matrix`, `verdict`, `camera` and `group` agree with, and how many it read.
+// crates `number`, `matrix`, `verdict`, `camera`, `group` and `nearest` agree with, and how many it read.
 mod calls;
 mod camera_operations;
 mod group_operations;
 mod matrix_operations;
+mod nearest_operations;
 mod number_operations;
 mod record;
 mod verdict_operations;
@@ -88,6 +89,11 @@ fn print_group_counts(agreed: &[u64; 256], read: &[u64; 256]) {
     print_count(b"bbox_combine_group", 224, agreed, read);
 }
 
+fn print_nearest_counts(agreed: &[u64; 256], read: &[u64; 256]) {
+    print_count(b"range_nearest", 225, agreed, read);
+    print_count(b"range_within", 226, agreed, read);
+}
+
 fn main() {
     let mut agreed = [0u64; 256];
     let mut read = [0u64; 256];
@@ -102,4 +108,5 @@ fn main() {
     print_verdict_counts(&agreed, &read);
     print_camera_counts(&agreed, &read);
     print_group_counts(&agreed, &read);
+    print_nearest_counts(&agreed, &read);
 }
