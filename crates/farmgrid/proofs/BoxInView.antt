@@ -10,7 +10,8 @@ use native.Mathlib.Omega.{arith}
 use lib.Dec.{T}
 use lib.IntN.{ℤ, pos, _-ℤ_, _*ℤ_}
 use lib.Signed.{_≤ℤ_}
-use Rattle.farmgrid.proofs.Integer.{hi, lo, of-self as self, of-pos, of-neg, of-le, of-min, of-max, le-is}
+use Rattle.whole.proofs.Integer.{hi, lo, of-self as self, of-pos, of-neg, of-le, of-min, of-max, le-is}
+use Rattle.whole.specs.Plane.{WholePlane}
 use Rattle.farmgrid.specs.Placement.{smaller, larger}
 use Rattle.farmgrid.proofs.WholeSigns.{_⊟_, _⊠_, flip}
 use Rattle.farmgrid.proofs.Singles.{Single, single, single-dot}
@@ -18,7 +19,7 @@ use Rattle.farmgrid.proofs.PlacedRanges.{placed-nonempty}
 use Rattle.verdict.specs.declared.plane.Plane.{Plane}
 use Rattle.verdict.specs.declared.bbox.BBox3d.{BBox3d}
 use Rattle.verdict.specs.Frustum.{boxInView}
-use Rattle.farmgrid.specs.FarmGrid.{WholePlane, AxisPlane, WholeBox, GridBox, ArePlanes, IsBox, lowOf, highOf}
+use Rattle.farmgrid.specs.FarmGrid.{AxisPlane, WholeBox, GridBox, ArePlanes, IsBox, lowOf, highOf}
 use Rattle.farmgrid.specs.FarmGrid.{ExactPoint, Satisfies, InBox, Share, BoxInView}
 use Rattle.farmgrid.proofs.EveryPlane.{every-of, every-both}
 use Rattle.farmgrid.proofs.BoxReach.{Reaches, endOf, reaches-along}

@@ -15,8 +15,9 @@ use lib.Signed.{nonNeg}
 use lib.Ieee.{Float, le, lt, eq, neg, round}
 use Rattle.number.specs.Limits.{gridLimit}
 use Rattle.number.specs.Arithmetic.{_⊘_}
+use Rattle.whole.specs.Plane.{WholePlane, dotℤ}
 use Rattle.farmgrid.specs.Whole.{Whole}
-use Rattle.farmgrid.proofs.Integer.{by-test, of-self as self, of-pos, of-neg, of-eq, abs-minus, abs-neg}
+use Rattle.whole.proofs.Integer.{by-test, of-self as self, of-pos, of-neg, of-eq, abs-minus, abs-neg}
 use Rattle.farmgrid.proofs.Exact.{neg-whole, le-whole, over-one}
 use Rattle.farmgrid.proofs.Formula.{Fit}
 use Rattle.matrix.specs.Constants.{positiveZero, one}
@@ -26,7 +27,7 @@ use Rattle.matrix.specs.Transform.{homogeneous}
 use Rattle.matrix.specs.declared.vec.Vec3d.{Vec3d}
 use Rattle.matrix.specs.declared.vec.Vec4d.{Vec4d}
 use Rattle.matrix.specs.declared.inverse.Inverted.{Inverted}
-use Rattle.farmgrid.specs.Placement.{WholeVec, WholeVec4, WholeRange, WholeMatrix, Within, NonEmpty, Placement, dotℤ, dot4ℤ, sizes}
+use Rattle.farmgrid.specs.Placement.{WholeVec, WholeVec4, WholeRange, WholeMatrix, Within, NonEmpty, Placement, dot4ℤ, sizes}
 use Rattle.farmgrid.proofs.WholeSigns.{_⊞_, _⊟_, _⊠_, abs-flip}
 use Rattle.farmgrid.proofs.Singles.{three, four, single, single-dot}
 use Rattle.farmgrid.proofs.QuarterTurns.{widen, widen-placement}
@@ -41,7 +42,7 @@ use Rattle.verdict.specs.Plane.{equation, fromEquation, offset, endToward, furt
 use Rattle.verdict.proofs.ReachSum.{reach-by-dot}
 use Rattle.verdict.specs.BBox.{boxEpsilon, flagBeside}
 use Rattle.verdict.specs.Frustum.{intoSpaceOf, boxInView}
-use Rattle.farmgrid.specs.FarmGrid.{WholePlane, AxisPlane, WholeBox, IsPlane, ArePlanes, IsBox, Every}
+use Rattle.farmgrid.specs.FarmGrid.{AxisPlane, WholeBox, IsPlane, ArePlanes, IsBox, Every}
 use Rattle.farmgrid.proofs.EveryPlane.{every-is}
 use Rattle.farmgrid.proofs.Distance.{same-test, non-negative}
 use Rattle.farmgrid.proofs.BoxReach.{Reaches, inSpace, ahead, distanceIn, in-space-single, reach-in-space, at-least}

@@ -6,14 +6,15 @@ use mathlib.Core.Logic.{_↔_, Iff·trans, Iff·symm}
 use mathlib.Core.List.{List, map}
 use Prim.Native.Nat.{ℕ}
 use lib.IntN.{ℤ, _-ℤ_}
+use Rattle.whole.specs.Plane.{WholePlane, gap}
 use Rattle.farmgrid.specs.Placement.{PlacementWithin, movedℤ, productℤ, larger}
 use Rattle.farmgrid.proofs.Singles.{same-dot}
 use Rattle.farmgrid.proofs.QuarterTurns.{product-moves}
 use Rattle.verdict.specs.declared.plane.Plane.{Plane}
 use Rattle.verdict.specs.declared.bbox.BBox3d.{BBox3d}
 use Rattle.verdict.specs.Frustum.{boxInView}
-use Rattle.farmgrid.specs.FarmGrid.{WholePlane, AxisPlane, WholeBox, ArePlanes, IsBox, Every, movedPlane, movedBox}
-use Rattle.farmgrid.proofs.Distance.{gap, same-test}
+use Rattle.farmgrid.specs.FarmGrid.{AxisPlane, WholeBox, ArePlanes, IsBox, Every, movedPlane, movedBox}
+use Rattle.farmgrid.proofs.Distance.{same-test}
 use Rattle.farmgrid.proofs.EveryPlane.{every-moved}
 use Rattle.farmgrid.proofs.Turned.{gap-moved}
 use Rattle.farmgrid.proofs.BoxReach.{Reaches, reachOf}

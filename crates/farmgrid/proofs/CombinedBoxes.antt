@@ -11,7 +11,7 @@ use lib.IntN.{ℤ, natAbs}
 use lib.Signed.{_≤ℤ_}
 use lib.Ieee.{lt, round}
 use Rattle.number.specs.Limits.{gridLimit}
-use Rattle.farmgrid.proofs.Integer.{of-self as self, of-le, of-min, of-max, le-is}
+use Rattle.whole.proofs.Integer.{of-self as self, of-le, of-min, of-max, le-is}
 use Rattle.matrix.specs.Constants.{one}
 use Rattle.matrix.specs.Matrix.{product}
 use Rattle.matrix.specs.Inverse.{inverseAbove}

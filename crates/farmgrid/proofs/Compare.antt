@@ -12,7 +12,7 @@ use lib.Ieee.{Float, nan, inf, fin, up, down, below, level, lt, eq, le, isNan}
 use lib.Ieee.Fits.{down-pos, eq→eqb, and-i, and-l, and-r}
 use Rattle.number.specs.Arithmetic.{precedes, minOf, maxOf}
 use Rattle.number.proofs.Extremes.{precedes-le, not-precedes}
-use Rattle.farmgrid.proofs.Integer.{by-test}
+use Rattle.whole.proofs.Integer.{by-test}
 use Rattle.farmgrid.proofs.Value.{Minus, At, minus-over}
 
 -- ---- ±k and ±l, of the signs s and t, are (p - q) * v / u and (p' - q') * v / u

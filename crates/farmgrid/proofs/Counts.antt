@@ -19,7 +19,7 @@ use Rattle.verdict.proofs.Between.{Between, equal, whole-part}
 use Rattle.verdict.proofs.PlaneCount.{a-count, count-within}
 use Rattle.farmgrid.specs.Whole.{Whole}
 use Rattle.farmgrid.specs.Records.{PlaneCount, CountExact}
-use Rattle.farmgrid.proofs.Integer.{of-pos, of-le}
+use Rattle.whole.proofs.Integer.{of-pos, of-le}
 use Rattle.farmgrid.proofs.Exact.{whole-at, of-whole, le-whole, eq-whole}
 
 -- ---- a whole number above 0 is what lies between it and itself

@@ -9,16 +9,16 @@ use lib.Dec.{T, lit≤, le→leb}
 use lib.IntN.{ℤ, pos, negsuc, _+ℤ_, _-ℤ_, _*ℤ_, -ℤ-+ℤ-cancel}
 use lib.Signed.{nonNeg, _≤ℤ_}
 use Rattle.number.specs.Arithmetic.{_⊖_}
+use Rattle.whole.specs.Plane.{WholePlane, dotℤ, gap}
 use Rattle.farmgrid.specs.Whole.{Whole}
-use Rattle.farmgrid.proofs.Integer.{of-self, of-sum, of-minus, of-eq, eq-of}
+use Rattle.whole.proofs.Integer.{of-self, of-sum, of-minus, of-eq, eq-of}
 use Rattle.farmgrid.proofs.Exact.{le-whole}
 use Rattle.farmgrid.proofs.Formula.{Fit, fit-minus}
 use Rattle.matrix.specs.Vec.{axis, dot, difference}
 use Rattle.matrix.specs.declared.vec.Vec3d.{Vec3d}
-use Rattle.farmgrid.specs.Placement.{dotℤ}
 use Rattle.verdict.specs.declared.plane.Plane.{Plane}
 use Rattle.verdict.specs.Plane.{distanceTo, onPositiveSide}
-use Rattle.farmgrid.specs.FarmGrid.{WholePlane, SegmentPlane, IsPoint, IsPlane}
+use Rattle.farmgrid.specs.FarmGrid.{SegmentPlane, IsPoint, IsPlane}
 use Rattle.farmgrid.proofs.WholeSums.{zero-whole, axis-fit, dot-fit}
 use Rattle.farmgrid.proofs.Dot.{dot-comm, dot-sum}
 
@@ -34,9 +34,7 @@ pub non-negative : (z : ℤ) → T (nonNeg z) ↔ (pos 0 ≤ℤ z)
 non-negative (pos n) = (λ t. record { le = le→leb 0 n zero-le }, λ h. tt)
 non-negative (negsuc n) = (λ t. absurd t, λ h. h .le)
 
--- ---- the exact distance: "the dot product of normal and point, less the distance"
-abbrev pub gap : WholePlane → (ℕ → ℤ) → ℤ
-gap P A = dotℤ (P .normal) A -ℤ P .distance
+-- ---- the exact distance is `gap`
 
 -- from A to B
 abbrev way : (ℕ → ℤ) → (ℕ → ℤ) → ℕ → ℤ

@@ -3,8 +3,9 @@ use mathlib.Core.Path.{_≡_, _∙_}
 use Prim.Native.Nat.{ℕ}
 use native.Mathlib.Omega.{arith}
 use lib.IntN.{ℤ, _+ℤ_, _*ℤ_, *ℤ-comm}
-use Rattle.farmgrid.proofs.Integer.{hi, lo, Of, of-self, of-sum, of-times, of-eq, times-sum}
-use Rattle.farmgrid.specs.Placement.{dotℤ, turnedℤ}
+use Rattle.whole.proofs.Integer.{hi, lo, Of, of-self, of-sum, of-times, of-eq, times-sum}
+use Rattle.whole.specs.Plane.{dotℤ}
+use Rattle.farmgrid.specs.Placement.{turnedℤ}
 
 pub dot-comm : (p q : ℕ → ℤ) → dotℤ p q ≡ dotℤ q p
 dot-comm p q t = *ℤ-comm (p 0) (q 0) t +ℤ *ℤ-comm (p 1) (q 1) t +ℤ *ℤ-comm (p 2) (q 2) t

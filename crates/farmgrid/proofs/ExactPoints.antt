@@ -8,11 +8,10 @@ use Prim.Native.Nat.{ℕ, _+_, _-_, _≤_}
 use native.Mathlib.Omega.{arith}
 use lib.IntN.{ℤ, pos, _+ℤ_, _-ℤ_, _*ℤ_}
 use lib.Signed.{_≤ℤ_}
-use Rattle.farmgrid.proofs.Integer.{of-self, of-pos, of-sum, of-minus, of-times, of-eq, of-le, le-is}
-use Rattle.farmgrid.specs.Placement.{dotℤ}
-use Rattle.farmgrid.specs.FarmGrid.{WholePlane, exactly, between, Satisfies, Every, InView, SegmentInView}
+use Rattle.whole.proofs.Integer.{of-self, of-pos, of-sum, of-minus, of-times, of-eq, of-le, le-is}
+use Rattle.whole.specs.Plane.{WholePlane, dotℤ, gap}
+use Rattle.farmgrid.specs.FarmGrid.{exactly, between, Satisfies, Every, InView, SegmentInView}
 use Rattle.farmgrid.proofs.Dot.{dot-sum, dot-times}
-use Rattle.farmgrid.proofs.Distance.{gap}
 use Rattle.farmgrid.proofs.Span.{Keeps, Place}
 
 -- ---- every plane of a list

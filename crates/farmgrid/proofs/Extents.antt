@@ -6,7 +6,7 @@ use mathlib.Core.List.{List, [], _∷_}
 use Prim.Native.Nat.{ℕ}
 use native.Mathlib.Omega.{arith}
 use lib.IntN.{ℤ}
-use Rattle.farmgrid.proofs.Integer.{of-self as self, of-eq, of-min, of-max, min-ind, max-ind}
+use Rattle.whole.proofs.Integer.{of-self as self, of-eq, of-min, of-max, min-ind, max-ind}
 use Rattle.farmgrid.proofs.PlacedRanges.{extreme}
 
 -- ---- the least, or the greatest, of two integers

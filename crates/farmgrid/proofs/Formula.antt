@@ -11,7 +11,7 @@ use lib.Ieee.{Float, binary64, neg}
 use lib.Ieee.Fits.{and-l, and-r}
 use Rattle.number.specs.Arithmetic.{_⊕_, _⊖_, _⊗_}
 use Rattle.farmgrid.specs.Whole.{Whole}
-use Rattle.farmgrid.proofs.Integer.{abs-sum, abs-minus, abs-times, abs-neg}
+use Rattle.whole.proofs.Integer.{abs-sum, abs-minus, abs-times, abs-neg}
 use Rattle.farmgrid.proofs.Exact.{add-whole, sub-whole, mul-whole, neg-whole}
 
 infixl 65 _:+_ _:-_

@@ -1,15 +1,11 @@
--- Fractions of whole numbers, compared by cross products, and where a plane cuts a segment. No float occurs. Assumes nothing.
-use Prim.Native.Nat.{ℕ, _+_, _*_, _≤_, _<_}
+-- The order of fractions, by the cross products that the whole-number engine compares. No float occurs. Assumes nothing.
+use Prim.Native.Nat.{_*_, _≤_, _<_}
 use native.Mathlib.Nat.{le-of-lt, not-le-of-lt, mul-le-mul-right, le-of-mul-le-mul-right}
 use native.Mathlib.Omega.{arith}
-use mathlib.Core.Bool.{Bool, not, cond, _&&_}
-use lib.Dec.{T, ltb, ltb→lt, nltb→le}
-use lib.IntN.{ℤ, natAbs}
-use lib.Signed.{nonNeg}
-
-pub record Fraction : Type 0 where
-  pub top : ℕ
-  pub bottom : ℕ
+use mathlib.Core.Bool.{not}
+use lib.Dec.{T, ltb→lt, nltb→le}
+use Rattle.whole.specs.declared.fraction.Fraction.{Fraction}
+use Rattle.whole.specs.Segment.{less}
 
 -- from 0 to 1
 pub record Proper (f : Fraction) : Type 0 where
@@ -20,16 +16,6 @@ pub record Proper (f : Fraction) : Type 0 where
 -- f ≤ g
 abbrev pub AtMost : Fraction → Fraction → Type 0
 AtMost f g = f .top * g .bottom ≤ g .top * f .bottom
-
--- the test of f < g, and the two choices by it
-abbrev pub less : Fraction → Fraction → Bool
-less f g = ltb (f .top * g .bottom) (g .top * f .bottom)
-
-abbrev pub later : Fraction → Fraction → Fraction
-later f g = cond (less f g) g f
-
-abbrev pub earlier : Fraction → Fraction → Fraction
-earlier f g = cond (less g f) g f
 
 -- what is less is at most
 pub at-most-less : (f g : Fraction) → T (less f g) → AtMost f g
@@ -49,25 +35,3 @@ at-most-trans f g h G i j =
     let i' = mul-le-mul-right (h .bottom) i in
     let j' = mul-le-mul-right (f .bottom) j in
     le-of-mul-le-mul-right {k = g .bottom} (omega arith) G
-
--- ---- the segment's ends
-
-abbrev pub firstEnd : Fraction
-firstEnd = record { top = 0; bottom = 1 }
-
-abbrev pub secondEnd : Fraction
-secondEnd = record { top = 1; bottom = 1 }
-
--- ---- a plane at the exact distances D and D' from the two ends
-
--- |D| / (|D| + |D'|): where the segment meets it, if the ends lie on different sides
-abbrev pub crossingAt : ℤ → ℤ → Fraction
-crossingAt D D' = record { top = natAbs D; bottom = natAbs D + natAbs D' }
-
--- A plane that has the second end alone on its positive side moves the start to its crossing, if that is later; one that has the first alone moves the end
--- there, if that is earlier.
-abbrev pub startBy : ℤ → ℤ → Fraction → Fraction
-startBy D D' f = cond (not (nonNeg D) && nonNeg D') (later f (crossingAt D D')) f
-
-abbrev pub endBy : ℤ → ℤ → Fraction → Fraction
-endBy D D' f = cond (nonNeg D && not (nonNeg D')) (earlier f (crossingAt D D')) f

@@ -16,10 +16,11 @@ use Rattle.verdict.specs.BBoxCalls.{flagged}
 use Rattle.verdict.specs.View.{planesOf}
 use Rattle.verdict.specs.Frustum.{boxInView}
 use Rattle.verdict.specs.FrustumCalls.{intersectsBoxCall}
-use Rattle.farmgrid.proofs.Integer.{of-self as self, of-neg, of-le, le-is}
+use Rattle.whole.proofs.Integer.{of-self as self, of-neg, of-le, le-is}
+use Rattle.whole.specs.Plane.{WholePlane}
 use Rattle.farmgrid.proofs.Singles.{single}
 use Rattle.farmgrid.specs.Placement.{PlacementWithin}
-use Rattle.farmgrid.specs.FarmGrid.{WholePlane, AxisPlane, WholeBox, lowOf, highOf}
+use Rattle.farmgrid.specs.FarmGrid.{AxisPlane, WholeBox, lowOf, highOf}
 use Rattle.farmgrid.specs.Records.{ViewRecord, BoxRecord, BoxRecords, none, more}
 use Rattle.farmgrid.specs.Combining.{Coordinate, other}
 use Rattle.farmgrid.specs.Grouping.{EachRecord, GroupOut}

@@ -7,10 +7,11 @@ use mathlib.Core.Bool.{Bool, true, false, cond}
 use lib.Dec.{eqb, eqb→eq}
 use lib.IntN.{ℤ, pos, negℤ, natAbs, _+ℤ_, pos-ne-negsuc}
 use Rattle.number.specs.Grid.{signed}
-use Rattle.farmgrid.proofs.Integer.{by-test, of-self as self, of-neg, of-eq, abs-neg}
+use Rattle.whole.proofs.Integer.{by-test, of-self as self, of-neg, of-eq, abs-neg}
+use Rattle.whole.specs.Plane.{dotℤ}
 use Rattle.farmgrid.proofs.Exact.{abs-signed}
 use Rattle.farmgrid.specs.Placement.{QuarterTurn, PlacementWithin}
-use Rattle.farmgrid.specs.Placement.{dotℤ, columnℤ, turnedℤ, movedℤ}
+use Rattle.farmgrid.specs.Placement.{columnℤ, turnedℤ, movedℤ}
 use Rattle.farmgrid.proofs.WholeSigns.{_⊞_, flip}
 use Rattle.farmgrid.proofs.Singles.{three, Single, unit-own, same-dot, dot-single}
 use Rattle.farmgrid.proofs.QuarterTurns.{transposeℤ, source, target, turned-within, moved-is, same-sizes}

@@ -13,7 +13,7 @@ use Rattle.number.specs.Answer.{unless}
 use Rattle.number.specs.Arithmetic.{_⊗_, _⊘_, absOf}
 use Rattle.number.specs.Grid.{signed}
 use Rattle.farmgrid.specs.Whole.{Whole}
-use Rattle.farmgrid.proofs.Integer.{by-test}
+use Rattle.whole.proofs.Integer.{by-test}
 use Rattle.farmgrid.proofs.Exact.{abs-whole, abs-signed}
 use Rattle.number.proofs.Magnitude.{abs-fits}
 use Rattle.farmgrid.proofs.Formula.{Fit, fit-sum, fit-minus, fit-times, fit-neg}

@@ -1,6 +1,5 @@
 -- The laws by which the claims are proved, and the claims.
 -- floats that are whole numbers, and rounded fractions of them
-pub mod Integer
 pub mod Value
 pub mod Compare
 pub mod Exact
@@ -38,6 +37,10 @@ pub mod Counts
 pub mod Answers
 pub mod Verdicts
 pub mod MorePlanes
+-- the whole-number engine, and both engines
+pub mod WholeSegment
+pub mod WholeRecords
+pub mod BothEngines
 -- the nearest range
 pub mod RangeDistance
 pub mod Nearest

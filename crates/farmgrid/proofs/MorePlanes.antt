@@ -21,7 +21,8 @@ use Rattle.verdict.specs.BBoxCalls.{flagged}
 use Rattle.verdict.specs.Plane.{onPositiveSide, reachesPositiveSide, underInverseTranspose}
 use Rattle.verdict.specs.View.{planesOf}
 use Rattle.verdict.specs.Frustum.{pointInView, segmentInView, boxInView, intoSpaceOf}
-use Rattle.farmgrid.specs.FarmGrid.{WholePlane, SegmentPlane, AxisPlane, WholeBox, IsPoint, IsBox, ArePlanes, exactly, between, Satisfies, Every}
+use Rattle.whole.specs.Plane.{WholePlane}
+use Rattle.farmgrid.specs.FarmGrid.{SegmentPlane, AxisPlane, WholeBox, IsPoint, IsBox, ArePlanes, exactly, between, Satisfies, Every}
 use Rattle.farmgrid.specs.Screens.{PlaneMore, PointScreened, SegmentScreened, BoxScreened, EachPlaneScreens}
 use Rattle.farmgrid.proofs.Answers.{point-answer, segment-answer, box-answer}
 use Rattle.farmgrid.proofs.Segment.{point-is, segment-is}

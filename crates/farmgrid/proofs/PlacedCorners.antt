@@ -9,7 +9,7 @@ use native.Mathlib.Nat.{eq-or-lt-of-le}
 use native.Mathlib.Omega.{arith}
 use lib.IntN.{ℤ}
 use lib.Signed.{_≤ℤ_, ≤ℤ-refl}
-use Rattle.farmgrid.proofs.Integer.{of-self as self, of-le, of-min, of-max, le-is}
+use Rattle.whole.proofs.Integer.{of-self as self, of-le, of-min, of-max, le-is}
 use Rattle.farmgrid.specs.Placement.{pickedOf}
 use Rattle.farmgrid.proofs.PlacedRanges.{extreme}
 use Rattle.farmgrid.specs.FarmGrid.{WholeBox, placedCornerOf}

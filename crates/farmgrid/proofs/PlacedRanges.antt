@@ -9,7 +9,7 @@ use mathlib.Core.Bool.{Bool, true, false}
 use lib.Dec.{lit<}
 use lib.IntN.{ℤ, natAbs, _+ℤ_, _*ℤ_}
 use lib.Signed.{_≤ℤ_}
-use Rattle.farmgrid.proofs.Integer.{of-self as self, of-neg, of-eq, of-le, of-min, of-max, le-is, min-ind, max-ind}
+use Rattle.whole.proofs.Integer.{of-self as self, of-neg, of-eq, of-le, of-min, of-max, le-is, min-ind, max-ind}
 use Rattle.farmgrid.specs.Placement.{Within, NonEmpty, PlacementWithin, movedℤ, productℤ}
 use Rattle.farmgrid.specs.Placement.{smaller, larger, placedLow, placedHigh}
 use Rattle.farmgrid.proofs.WholeSigns.{_⊞_, flip}

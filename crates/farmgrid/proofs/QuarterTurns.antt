@@ -6,7 +6,7 @@ use native.Mathlib.Omega.{arith}
 use mathlib.Core.Bool.{Bool, true, false}
 use lib.Dec.{lit<}
 use lib.IntN.{ℤ, pos, natAbs, _+ℤ_, _-ℤ_, _*ℤ_}
-use Rattle.farmgrid.proofs.Integer.{of-self as self, of-pos, of-neg, of-eq, abs-sum}
+use Rattle.whole.proofs.Integer.{of-self as self, of-pos, of-neg, of-eq, abs-sum}
 use Rattle.farmgrid.specs.Placement.{Within, QuarterTurn, PlacementWithin, sizes}
 use Rattle.farmgrid.specs.Placement.{columnℤ, turnedℤ, movedℤ, productℤ}
 use Rattle.farmgrid.proofs.WholeSigns.{_⊞_, _⊠_, flip, abs-flip, dot-flip, plus-zero, plus-one}

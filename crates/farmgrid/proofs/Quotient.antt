@@ -21,7 +21,7 @@ use lib.Ieee.Scale.{grid, overflow, round-val, round-same}
 use Rattle.number.specs.Arithmetic.{_⊘_, minOf, maxOf}
 use Rattle.number.specs.Grid.{signed}
 use Rattle.farmgrid.specs.Whole.{Whole}
-use Rattle.farmgrid.proofs.Integer.{of-pos, of-neg, eq-of}
+use Rattle.whole.proofs.Integer.{of-pos, of-neg, eq-of}
 use Rattle.number.proofs.Rounding.{near}
 use Rattle.farmgrid.proofs.Value.{At, at-of, at-scale}
 use Rattle.farmgrid.proofs.Compare.{lt-at, le-at, at-one, min-at, max-at}

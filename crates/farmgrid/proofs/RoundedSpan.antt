@@ -13,11 +13,13 @@ use lib.Ieee.{Float, lt}
 use Rattle.number.specs.Arithmetic.{_⊘_, minOf, maxOf}
 use Rattle.number.specs.Grid.{signed}
 use Rattle.farmgrid.specs.Whole.{Whole}
-use Rattle.farmgrid.proofs.Integer.{by-test, of-self, of-pos, of-neg, of-minus, of-eq}
+use Rattle.whole.proofs.Integer.{by-test, of-self, of-pos, of-neg, of-minus, of-eq}
 use Rattle.farmgrid.proofs.Exact.{abs-signed}
 use Rattle.farmgrid.proofs.Quotient.{Frac, frac-same, lt-frac, min-frac, max-frac, zero-frac, one-frac, div-frac}
 use Rattle.farmgrid.proofs.Distance.{same-test}
-use Rattle.farmgrid.proofs.Fractions.{Fraction, at-most-other, not-at-most, less, later, earlier, firstEnd, secondEnd, startBy, endBy}
+use Rattle.whole.specs.declared.fraction.Fraction.{Fraction}
+use Rattle.whole.specs.Segment.{less, later, earlier, firstEnd, secondEnd, startBy, endBy}
+use Rattle.farmgrid.proofs.Fractions.{at-most-other, not-at-most}
 use Rattle.verdict.specs.Frustum.{startCut, endCut}
 
 -- the largest denominator of a crossing: 3 * 2 ^ 24

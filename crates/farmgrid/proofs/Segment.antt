@@ -12,17 +12,18 @@ use lib.IntN.{ℤ}
 use lib.Ieee.{Float}
 use lib.Ieee.Fits.{and-i, and-l, and-r}
 use Rattle.number.specs.Every.{every}
+use Rattle.whole.specs.Plane.{WholePlane, gap}
 use Rattle.farmgrid.proofs.Exact.{neg-whole}
 use Rattle.matrix.specs.Constants.{positiveZero, one}
 use Rattle.matrix.specs.declared.vec.Vec3d.{Vec3d}
 use Rattle.verdict.specs.declared.plane.Plane.{Plane}
 use Rattle.verdict.specs.Plane.{onPositiveSide}
 use Rattle.verdict.specs.Frustum.{pointInView, hasEnd, spanLeft, segmentInView}
-use Rattle.farmgrid.specs.FarmGrid.{WholePlane, SegmentPlane, IsPoint, ArePlanes, none, more}
+use Rattle.farmgrid.specs.FarmGrid.{SegmentPlane, IsPoint, ArePlanes, none, more}
 use Rattle.farmgrid.specs.FarmGrid.{exactly, Satisfies, InView, SegmentInView}
 use Rattle.farmgrid.proofs.WholeSums.{zero-whole, one-whole}
-use Rattle.farmgrid.proofs.Distance.{gap, non-negative, distance-whole, side, slope-fit}
-use Rattle.farmgrid.proofs.Fractions.{Fraction}
+use Rattle.farmgrid.proofs.Distance.{non-negative, distance-whole, side, slope-fit}
+use Rattle.whole.specs.declared.fraction.Fraction.{Fraction}
 use Rattle.farmgrid.proofs.Span.{Place, place-map, eachHasEnd, spanBy, KeptBy, span-is}
 use Rattle.farmgrid.proofs.RoundedSpan.{Rounded, first-rounded, second-rounded, less-rounded, start-rounded, end-rounded}
 use Rattle.farmgrid.proofs.EveryPlane.{every-is}

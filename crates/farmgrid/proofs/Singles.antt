@@ -8,9 +8,9 @@ use lib.Dec.{eqb, lit<}
 use lib.IntN.{ℤ, pos, negsuc, natAbs, _+ℤ_, _*ℤ_}
 use lib.Signed.{nonNeg}
 use Rattle.number.specs.Grid.{signed}
-use Rattle.farmgrid.proofs.Integer.{of-self as self, of-pos, of-eq}
+use Rattle.whole.proofs.Integer.{of-self as self, of-pos, of-eq}
+use Rattle.whole.specs.Plane.{dotℤ}
 use Rattle.farmgrid.specs.Placement.{sizes}
-use Rattle.farmgrid.specs.Placement.{dotℤ}
 use Rattle.farmgrid.proofs.WholeSigns.{_⊞_, flip, times-unit}
 use Rattle.farmgrid.proofs.Dot.{dot-comm}
 

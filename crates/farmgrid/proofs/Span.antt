@@ -15,8 +15,10 @@ use lib.Dec.{T, not-T, lit<, lit≤}
 use lib.IntN.{ℤ, pos, negsuc}
 use lib.Ieee.Fits.{and-i, and-l, and-r}
 use lib.Signed.{nonNeg}
-use Rattle.farmgrid.proofs.Integer.{by-test, hi, lo}
-use Rattle.farmgrid.proofs.Fractions.{Fraction, Proper, AtMost, less, later, earlier, firstEnd, secondEnd, startBy, endBy}
+use Rattle.whole.proofs.Integer.{by-test, hi, lo}
+use Rattle.whole.specs.declared.fraction.Fraction.{Fraction}
+use Rattle.whole.specs.Segment.{less, later, earlier, firstEnd, secondEnd, startBy, endBy}
+use Rattle.farmgrid.proofs.Fractions.{Proper, AtMost}
 use Rattle.farmgrid.proofs.Fractions.{at-most-less, at-most-other, not-at-most, at-most-trans}
 
 -- ---- places
@@ -134,7 +136,7 @@ cut (negsuc x) (negsuc y) t s = absurd t
 -- ---- plane by plane
 
 -- a plane that keeps a place has an end on its positive side
-kept-end : (D D' : ℤ) (u m : ℕ) → 0 < u + m → Keeps D D' u m → T (nonNeg D || nonNeg D')
+pub kept-end : (D D' : ℤ) (u m : ℕ) → 0 < u + m → Keeps D D' u m → T (nonNeg D || nonNeg D')
 kept-end (pos x) D' u m h k = tt
 kept-end (negsuc x) (pos y) u m h k = tt
 kept-end (negsuc x) (negsuc y) u m h k = absurd (omega arith)

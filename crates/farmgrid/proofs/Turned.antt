@@ -7,15 +7,16 @@ use mathlib.Core.List.{List, map}
 use Prim.Native.Nat.{ℕ}
 use native.Mathlib.Omega.{arith}
 use lib.IntN.{ℤ, _+ℤ_, _-ℤ_}
-use Rattle.farmgrid.proofs.Integer.{of-self, of-sum, of-minus, of-eq}
+use Rattle.whole.proofs.Integer.{of-self, of-sum, of-minus, of-eq}
 use Rattle.matrix.specs.declared.vec.Vec3d.{Vec3d}
-use Rattle.farmgrid.specs.Placement.{dotℤ, turnedℤ, movedℤ, QuarterTurn}
+use Rattle.whole.specs.Plane.{WholePlane, dotℤ, gap}
+use Rattle.farmgrid.specs.Placement.{turnedℤ, movedℤ, QuarterTurn}
 use Rattle.verdict.specs.declared.plane.Plane.{Plane}
 use Rattle.verdict.specs.Frustum.{pointInView, segmentInView}
-use Rattle.farmgrid.specs.FarmGrid.{WholePlane, SegmentPlane, IsPoint, ArePlanes, exactly, Satisfies, InView, SegmentInView, movedPlane}
+use Rattle.farmgrid.specs.FarmGrid.{SegmentPlane, IsPoint, ArePlanes, exactly, Satisfies, InView, SegmentInView, movedPlane}
 use Rattle.farmgrid.proofs.Dot.{dot-sum}
 use Rattle.farmgrid.proofs.TurnedDot.{keeps-dot}
-use Rattle.farmgrid.proofs.Distance.{gap, same-test}
+use Rattle.farmgrid.proofs.Distance.{same-test}
 use Rattle.farmgrid.proofs.Span.{Keeps, place-map}
 use Rattle.farmgrid.proofs.EveryPlane.{every-moved}
 use Rattle.farmgrid.proofs.ExactPoints.{point-gap, Kept, segment-place}

@@ -6,8 +6,9 @@ use Prim.Native.Nat.{ℕ, zero, suc, _+_, _*_, _≤_, _<_}
 use native.Mathlib.Omega.{arith}
 use lib.Dec.{lit<}
 use lib.IntN.{ℤ, pos, negsuc, natAbs, _+ℤ_, _*ℤ_, *ℤ-zero, zero-*ℤ}
-use Rattle.farmgrid.proofs.Integer.{hi, lo, Of, of-self, of-pos, of-sum, of-times, of-eq}
-use Rattle.farmgrid.specs.Placement.{dotℤ, columnℤ, turnedℤ, sizes, QuarterTurn}
+use Rattle.whole.proofs.Integer.{hi, lo, Of, of-self, of-pos, of-sum, of-times, of-eq}
+use Rattle.whole.specs.Plane.{dotℤ}
+use Rattle.farmgrid.specs.Placement.{columnℤ, turnedℤ, sizes, QuarterTurn}
 use Rattle.farmgrid.proofs.Dot.{dot-comm, dot-turned}
 
 -- ---- the rows of a quarter turn

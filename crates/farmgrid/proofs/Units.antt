@@ -14,15 +14,16 @@ use lib.Ieee.Back.{whole-unique}
 use Rattle.number.specs.Arithmetic.{_⊗_, _⊘_, maxOf}
 use Rattle.number.specs.Root.{sqrtOf}
 use Rattle.number.specs.Grid.{signed}
+use Rattle.whole.specs.Plane.{dotℤ}
 use Rattle.farmgrid.specs.Whole.{Whole}
-use Rattle.farmgrid.proofs.Integer.{of-pos, of-neg, eq-of}
+use Rattle.whole.proofs.Integer.{of-pos, of-neg, eq-of}
 use Rattle.farmgrid.proofs.Exact.{to-value}
 use Rattle.farmgrid.proofs.Formula.{Fit}
 use Rattle.number.proofs.Worked.{root-of-one}
 use Rattle.matrix.specs.declared.vec.Vec3d.{Vec3d}
 use Rattle.matrix.specs.Constants.{one, minLength}
 use Rattle.matrix.specs.Vec.{axis, dot, lengthOf, normalized}
-use Rattle.farmgrid.specs.Placement.{WholeVec, dotℤ, sizes}
+use Rattle.farmgrid.specs.Placement.{WholeVec, sizes}
 use Rattle.matrix.proofs.Literals.{one-bits}
 use Rattle.farmgrid.proofs.Singles.{three, unit-own, Single, single, single-dot}
 use Rattle.farmgrid.proofs.WholeSums.{one-whole, over-unit, dot-fit, whole-vec3}

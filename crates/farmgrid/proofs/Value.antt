@@ -13,7 +13,7 @@ use lib.Ieee.Fits.{down-pos}
 use lib.Ieee.Exact.{HasValue}
 use lib.Ieee.Back.{round-whole}
 use lib.Ieee.Scale.{round-same}
-use Rattle.farmgrid.proofs.Integer.{by-test}
+use Rattle.whole.proofs.Integer.{by-test}
 
 -- k with the sign s is p - q
 abbrev pub Minus : Bool → ℕ → ℕ → ℕ → Type 0

@@ -10,7 +10,7 @@ use lib.IntN.{ℤ, pos, natAbs}
 use lib.Ieee.{eq}
 use Rattle.number.specs.Arithmetic.{_⊗_, _⊘_}
 use Rattle.farmgrid.specs.Whole.{Whole}
-use Rattle.farmgrid.proofs.Integer.{by-test}
+use Rattle.whole.proofs.Integer.{by-test}
 use Rattle.farmgrid.proofs.Formula.{Fit, fit-sum}
 use Rattle.matrix.specs.declared.vec.Vec3d.{Vec3d}
 use Rattle.matrix.specs.declared.vec.Vec4d.{Vec4d}

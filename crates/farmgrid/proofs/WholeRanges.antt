@@ -12,7 +12,7 @@ use lib.Signed.{_≤ℤ_, ltZ, ltZ-yes, ltZ-no, clashℤ}
 use lib.Ieee.{Float, lt}
 use Rattle.number.specs.Arithmetic.{_⊗_, minOf, maxOf}
 use Rattle.farmgrid.specs.Whole.{Whole}
-use Rattle.farmgrid.proofs.Integer.{of-self as self, of-eq, of-min, of-max, min-ind, max-ind, min-shift, max-shift}
+use Rattle.whole.proofs.Integer.{of-self as self, of-eq, of-min, of-max, min-ind, max-ind, min-shift, max-shift}
 use Rattle.farmgrid.proofs.Exact.{lt-whole, min-whole, max-whole}
 use Rattle.farmgrid.proofs.Formula.{Fit, fit-sum, fit-times}
 use Rattle.matrix.specs.declared.matrix.Mat4d.{Mat4d}

@@ -6,8 +6,8 @@ use native.Mathlib.Omega.{arith}
 use mathlib.Core.Bool.{Bool, true, false, cond}
 use lib.IntN.{ℤ, pos, negℤ, natAbs, _+ℤ_, _-ℤ_, _*ℤ_, negℤ-negℤ}
 use Rattle.number.specs.Grid.{signed}
-use Rattle.farmgrid.proofs.Integer.{Of, of-self as self, of-pos, of-neg, of-sum, of-minus, of-times, of-eq, abs-neg}
-use Rattle.farmgrid.specs.Placement.{dotℤ}
+use Rattle.whole.proofs.Integer.{Of, of-self as self, of-pos, of-neg, of-sum, of-minus, of-times, of-eq, abs-neg}
+use Rattle.whole.specs.Plane.{dotℤ}
 
 -- ---- sums, differences and products of differences
 

@@ -10,8 +10,9 @@ use lib.IntN.{ℤ, pos, natAbs, _*ℤ_}
 use lib.Ieee.{Float, binary64, round}
 use Rattle.number.specs.Arithmetic.{_⊕_, _⊗_, _⊘_}
 use Rattle.number.specs.Grid.{signed}
+use Rattle.whole.specs.Plane.{dotℤ}
 use Rattle.farmgrid.specs.Whole.{Whole}
-use Rattle.farmgrid.proofs.Integer.{abs-times}
+use Rattle.whole.proofs.Integer.{abs-times}
 use Rattle.farmgrid.proofs.Exact.{mul-whole, over-one, over-minus-one, abs-signed}
 use Rattle.farmgrid.proofs.Formula.{Fit, fit-sum, fit-times}
 use Rattle.matrix.specs.declared.vec.Vec3d.{Vec3d}
@@ -19,7 +20,7 @@ use Rattle.matrix.specs.Constants.{positiveZero, one}
 use Rattle.matrix.specs.Vec.{axis, axis4, dot4, vec3, vec4}
 use Rattle.matrix.specs.Matrix.{entry, matrix}
 use Rattle.farmgrid.specs.Placement.{WholeVec, WholeVec4, WholeMatrix, Within}
-use Rattle.farmgrid.specs.Placement.{dotℤ, dot4ℤ}
+use Rattle.farmgrid.specs.Placement.{dot4ℤ}
 use Rattle.farmgrid.proofs.Singles.{three, four}
 use Rattle.farmgrid.proofs.WholeSigns.{flip, times-unit, zero-plus}
 

@@ -9,17 +9,14 @@ use lib.Dec.{lit≤}
 use lib.IntN.{ℤ, pos, natAbs, _+ℤ_, _-ℤ_, _*ℤ_}
 use lib.Signed.{_≤ℤ_}
 use Rattle.number.specs.Limits.{normalLimit, distanceLimit}
+use Rattle.whole.specs.Plane.{WholePlane, dotℤ}
 use Rattle.farmgrid.specs.Whole.{Whole}
 use Rattle.matrix.specs.declared.vec.Vec3d.{Vec3d}
-use Rattle.farmgrid.specs.Placement.{WholeVec, WholeRange, WholeMatrix, Within, NonEmpty, GridPoint, Placement, dotℤ, sizes, turnedℤ, productℤ, placedCorner, placedLow, placedHigh}
+use Rattle.farmgrid.specs.Placement.{WholeVec, WholeRange, WholeMatrix, Within, NonEmpty, GridPoint, Placement, sizes, turnedℤ, productℤ, placedCorner, placedLow, placedHigh}
 use Rattle.verdict.specs.declared.plane.Plane.{Plane}
 use Rattle.verdict.specs.declared.bbox.BBox3d.{BBox3d}
 
 -- ---- planes in whole numbers
-
-pub record WholePlane : Type 0 where
-  pub normal : ℕ → ℤ
-  pub distance : ℤ
 
 -- "Segment planes [..] have whole normal entries of size at most 128 and whole distances of size at most 16,777,216."
 pub record SegmentPlane (P : WholePlane) : Type 0 where

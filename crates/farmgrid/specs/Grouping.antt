@@ -11,7 +11,8 @@ use Rattle.number.specs.Answer.{result}
 use Rattle.verdict.specs.BBoxCalls.{combineCall, alignedRangeCall}
 use Rattle.verdict.specs.FrustumCalls.{intersectsBoxCall}
 use Rattle.group.specs.Group.{groupCall}
-use Rattle.farmgrid.specs.FarmGrid.{WholePlane, AxisPlane, WholeBox}
+use Rattle.whole.specs.Plane.{WholePlane}
+use Rattle.farmgrid.specs.FarmGrid.{AxisPlane, WholeBox}
 use Rattle.farmgrid.specs.Records.{ViewRecord, BoxRecords, Accepted}
 use Rattle.farmgrid.specs.Combining.{Picked, Two, RangeExact}
 

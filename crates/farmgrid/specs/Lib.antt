@@ -5,6 +5,7 @@ pub mod FarmGrid
 pub mod Records
 pub mod Verdicts
 pub mod Screens
+pub mod WholeNumbers
 pub mod Nearest
 pub mod Survey
 pub mod Turns

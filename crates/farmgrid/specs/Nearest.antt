@@ -15,8 +15,9 @@ use Rattle.number.specs.Answer.{Outcome, result, Found, nowhere, found}
 use Rattle.nearest.specs.Nearest.{mostRanges, rangeAt}
 use Rattle.nearest.specs.Calls.{nearestCall, Listing, listing, withinCall}
 use Rattle.nearest.specs.Meaning.{Rising}
+use Rattle.whole.specs.Plane.{dotℤ}
 use Rattle.farmgrid.specs.Whole.{Whole}
-use Rattle.farmgrid.specs.Placement.{WholeRange, NonEmpty, GridPoint, dotℤ}
+use Rattle.farmgrid.specs.Placement.{WholeRange, NonEmpty, GridPoint}
 use Rattle.farmgrid.specs.Records.{PointRecord}
 
 -- ---- the exact distance

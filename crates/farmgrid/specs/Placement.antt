@@ -7,6 +7,7 @@ use lib.Dec.{eqb}
 use lib.IntN.{ℤ, pos, natAbs, _+ℤ_, _*ℤ_}
 use lib.Signed.{ltZ, _≤ℤ_}
 use Rattle.number.specs.Limits.{gridLimit}
+use Rattle.whole.specs.Plane.{dotℤ}
 use Rattle.farmgrid.specs.Whole.{Whole}
 use Rattle.matrix.specs.declared.vec.Vec3d.{Vec3d}
 use Rattle.matrix.specs.declared.vec.Vec4d.{Vec4d}
@@ -39,9 +40,6 @@ pub record NonEmpty (low high : ℕ → ℤ) : Type 0 where
   pub ordered : (i : ℕ) → i < 3 → low i ≤ℤ high i
 
 -- ---- exact operations
-
-abbrev pub dotℤ : (ℕ → ℤ) → (ℕ → ℤ) → ℤ
-dotℤ p q = p 0 *ℤ q 0 +ℤ p 1 *ℤ q 1 +ℤ p 2 *ℤ q 2
 
 abbrev pub dot4ℤ : (ℕ → ℤ) → (ℕ → ℤ) → ℤ
 dot4ℤ p q = dotℤ p q +ℤ p 3 *ℤ q 3

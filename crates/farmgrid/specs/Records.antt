@@ -17,9 +17,10 @@ use Rattle.matrix.specs.Matrix.{matrixOf}
 use Rattle.verdict.specs.BBox.{boxOf}
 use Rattle.verdict.specs.BBoxCalls.{flagged}
 use Rattle.verdict.specs.View.{volumeLength, planeCountOf, planesOf}
+use Rattle.whole.specs.Plane.{WholePlane}
 use Rattle.farmgrid.specs.Whole.{Whole}
 use Rattle.farmgrid.specs.Placement.{Placed}
-use Rattle.farmgrid.specs.FarmGrid.{WholePlane, WholeBox, IsPoint, ArePlanes, IsBox}
+use Rattle.farmgrid.specs.FarmGrid.{WholeBox, IsPoint, ArePlanes, IsBox}
 
 -- ---- records, by what they are of
 

@@ -13,7 +13,8 @@ use Rattle.verdict.specs.declared.plane.Plane.{Plane}
 use Rattle.verdict.specs.BBoxCalls.{flagged}
 use Rattle.verdict.specs.View.{planesOf}
 use Rattle.verdict.specs.FrustumCalls.{intersectsPointCall, intersectsSegmentCall, intersectsBoxCall}
-use Rattle.farmgrid.specs.FarmGrid.{WholePlane, SegmentPlane, AxisPlane, WholeBox}
+use Rattle.whole.specs.Plane.{WholePlane}
+use Rattle.farmgrid.specs.FarmGrid.{SegmentPlane, AxisPlane, WholeBox}
 use Rattle.farmgrid.specs.Records.{PointRecord, VolumeRecord, ViewRecord, BoxRecord}
 
 -- ---- records

@@ -4,7 +4,8 @@ use Prim.Native.Nat.{ℕ}
 use lib.IntN.{ℤ}
 use lib.Ieee.{Float}
 use Rattle.verdict.specs.FrustumCalls.{intersectsPointCall, intersectsSegmentCall, intersectsBoxCall}
-use Rattle.farmgrid.specs.FarmGrid.{WholePlane, SegmentPlane, AxisPlane, WholeBox, exactly, InView, Share, SegmentInView, BoxInView}
+use Rattle.whole.specs.Plane.{WholePlane}
+use Rattle.farmgrid.specs.FarmGrid.{SegmentPlane, AxisPlane, WholeBox, exactly, InView, Share, SegmentInView, BoxInView}
 use Rattle.farmgrid.specs.Records.{PointRecord, ViewRecord, BoxRecord, Settled}
 
 -- For segment planes and a grid point the verdict is yes exactly where the point satisfies all planes.

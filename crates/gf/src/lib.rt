@@ -11,3 +11,4 @@ pub mod plane_calls;
 pub mod projection_calls;
 pub mod range_calls;
 pub mod ray_calls;
+pub mod whole_calls;
