@@ -4,8 +4,8 @@
  * function is proved to meet its contract (crates/gf/src), for all lengths and all numbers. The functions keep nothing from
  * call to call, so that threads may call them at once.
  *
- * What is lent. A slice is two parameters: a pointer, and a length counted in what it points to: numbers (double), the bytes of
- * a farm file, or slots (uint32_t). The caller owes, and nothing tests:
+ * What is lent. A slice is two parameters: a pointer, and a length counted in what it points to: numbers (double), whole numbers
+ * (int32_t), the bytes of a farm file, or slots (uint32_t). The caller owes, and nothing tests:
  *
  *   - a pointer is not null, even where its length is 0; it is aligned for what it points to, and points to at least as many
  *     numbers as the length says, or to one where it has no length beside it;
@@ -24,12 +24,12 @@
  *   4  a matrix is singular
  *   5  a miss
  *   6  a matrix is not a projection
- *   7  a coordinate is off the grid
+ *   7  a coordinate is off the grid, or a whole number is past its limit there
  *   8  a number of a camera is not finite
  *   9  a farm file is too short, or its directory does not say where its sections lie
  *   10 a section of a farm file is not as long as its record
  *   11 a group of boxes is empty, or has more numbers than 256 boxes
- *   12 a volume's count of planes is not whole, or outside GF_FEWEST_PLANES to GF_MOST_PLANES
+ *   12 a volume's or a view's count of planes is not whole, or outside GF_FEWEST_PLANES to GF_MOST_PLANES
  *
  * With status 0 all that is lent for a result is written. Every refusal leaves all of it unchanged. Slices lent for reading
  * are never written. Where more than one refusal applies, the one that "Refuses" lists first is returned. A result of several
@@ -58,6 +58,7 @@
  *                         face into the view, in front the original six, left, right, bottom, top, near, far, and behind them
  *                         those of sheds and screens that cut it; then four rays along the edges of the view, from its near
  *                         corners left bottom, left top, right top, right bottom. That is 49 numbers for six planes
+ *   view 1 + 4n           of whole numbers: the same count, then n planes, without rays. That is 25 numbers for six planes
  *
  * Below, "In" gives the length of each slice lent for reading, "Out" what is written with status 0, and "Refuses" the
  * refusals that the function can give, in their order.
@@ -68,7 +69,7 @@
 #include <stddef.h>
 #include <stdint.h>
 
-/* The limits of a volume's count of planes. */
+/* The limits of a volume's count of planes, and of a view's. */
 #define GF_FEWEST_PLANES 6
 #define GF_MOST_PLANES 32
 
@@ -332,6 +333,20 @@ uint32_t gf_intersects_bbox(const double *volume, size_t volume_len, const doubl
  * 3: the flag is neither 0, of either sign, nor 1.
  * In: bbox 23, m 16. Out: yes or no. Refuses: 1, 3. */
 uint32_t gf_intersects_view_volume(const double *bbox, size_t bbox_len, const double *m, size_t m_len, uint32_t *out);
+
+/* ---- the same in whole numbers: no float is read, made or written. An end's coordinates are at most 65536 in size, the entries
+ * of a normal at most 128, a distance at most 16777216: the numbers of the farm grid */
+
+/* Whether any of the segment from p0 to p1, its ends included, is on the positive side of every plane, exactly. At each plane an
+ * end's distance is the whole number end times normal, less the plane's distance. Both ends below 0 at one plane: no. Where one
+ * of the two, d0 of p0 and d1 of p1, is below 0, the segment comes in (d0 is) or goes out (d1 is) at the fraction |d0| / |d1 - d0|
+ * of its way. No, if the greatest fraction at which it comes in is above the least at which it goes out, compared by products of
+ * whole numbers; where they are equal it touches the view in one point, and that is a yes. The verdict is that of
+ * gf_intersects_segment on the same numbers as doubles, with any four finite rays. 1: an end has not 3 numbers, or the view has
+ * fewer than 25; 12: the count is outside its limits; 1: the view has not 4 numbers for each plane that it counts; 7: a number of
+ * any plane or of an end is past its limit.
+ * In: view, p0 3, p1 3. Out: yes or no. Refuses: 1, 12, 1, 7. */
+uint32_t gf_whole_intersects_segment(const int32_t *view, size_t view_len, const int32_t *p0, size_t p0_len, const int32_t *p1, size_t p1_len, uint32_t *out);
 
 /* ---- the numbers that the other operations are made of. These return their result and refuse nothing */
 

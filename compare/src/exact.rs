@@ -37,6 +37,25 @@ pub fn segment(planes: &[WholePlane], p0: Whole, p1: Whole) -> bool {
     !less(greatest, least)
 }
 
+/// The same by another way, without any fraction: Fourier's elimination of
+/// m/k. What is asked of it is `reach + m/k times rise` at least 0, of each
+/// plane, of m/k itself and of 1 less m/k. It can be met just where nothing that
+/// does not rise asks for too much, and where every condition that rises can be
+/// met together with every one that falls.
+pub fn segment_by_pairs(planes: &[WholePlane], p0: Whole, p1: Whole) -> bool {
+    let of_plane = |plane: &WholePlane| {
+        let reach = i128::from(plane.reach(p0));
+        (reach, i128::from(plane.reach(p1)) - reach)
+    };
+    let all: Vec<(i128, i128)> = planes.iter().map(of_plane).chain([(0, 1), (1, -1)]).collect();
+    let (rising, others): (Vec<_>, Vec<_>) = all.into_iter().partition(|&(_, rise)| rise > 0);
+    others.iter().all(|&(reach, rise)| match rise {
+        0 => reach >= 0,
+        // Added up with weights that take m/k out.
+        _ => rising.iter().all(|&(its_reach, its_rise)| its_reach * -rise + reach * its_rise >= 0),
+    })
+}
+
 /// The least and the greatest coordinates that axis planes allow, where they
 /// bound them.
 fn allowed(planes: &[WholePlane]) -> [Whole; 2] {
@@ -88,21 +107,32 @@ pub fn within(ranges: &[[Whole; 2]], p: Whole, limit: i64) -> Vec<usize> {
 #[cfg(test)]
 mod tests {
     use super::*;
-    use crate::inputs::{FarmBox, Turn};
+    use crate::inputs::{FarmBox, Rng, Turn, WHOLE_CUBE, among_others, grazing, near_tie};
+
+    /// Both ways, on crossings that coincide or all but do.
+    #[test]
+    fn segments_by_pairs() {
+        let (mut yes, mut ties) = (0, 0);
+        for case in 0..300_000 {
+            let rng = &mut Rng::at(5, case);
+            let (six, a, b) = if case % 2 == 0 { near_tie(rng) } else { grazing(rng) };
+            let planes = among_others(rng, &six);
+            let verdict = segment(&planes, a, b);
+            assert_eq!(segment_by_pairs(&planes, a, b), verdict, "{planes:?} {a:?} {b:?}");
+            yes += u64::from(verdict);
+            // What is one further in at every plane that is not idle.
+            let strict: Vec<WholePlane> =
+                planes.iter().map(|plane| WholePlane { distance: plane.distance + 1, ..*plane }).collect();
+            ties += u64::from(verdict && !segment(&strict, a, b));
+        }
+        assert!(yes > 90_000 && yes < 210_000 && ties > 50_000, "{yes} yes, {ties} that only just are");
+    }
 
     /// Paper 01's cube and marked verdicts, but for the tenth: an empty range
     /// is no grid box.
     #[test]
     fn the_marked_verdicts() {
-        let plane = |normal, distance| WholePlane { normal, distance };
-        let cube = [
-            plane([1, 0, 0], 0),
-            plane([-1, 0, 0], -10),
-            plane([0, 1, 0], 0),
-            plane([0, -1, 0], -10),
-            plane([0, 0, 1], 0),
-            plane([0, 0, -1], -10),
-        ];
+        let cube = WHOLE_CUBE;
         let segment = |a, b| segment(&cube, a, b);
         let unplaced = |min, max| placed_box(&cube, [min, max]);
         let turned = |x| {

@@ -1,11 +1,15 @@
 //! The farm grid by a second judge, exact whole numbers: verdicts, turns,
-//! combining, and what is nearest. The Rust is judged as the archive is.
+//! combining, what is nearest, and both engines on lines that graze. The Rust is
+//! judged as the archive is.
 
 use crate::exact;
-use crate::inputs::{self, FarmBox, Rng, Turn, Whole, WholePlane, among_others, farm_volume, floats, on_grid};
+use crate::inputs::{
+    self, FarmBox, Rng, Turn, Whole, WholeAsked, WholePlane, among_others, farm_volume, floats, on_grid,
+};
 use crate::judge::NO_PLACE;
 use crate::lent::{Ins, Lent, Side};
 use crate::op::Op;
+use crate::ops::whole_lent;
 use crate::trial::{Outcome, Trial};
 use std::fmt::Debug;
 
@@ -22,9 +26,10 @@ enum Ask {
     Group,
     Nearest,
     Within,
+    WholeSegment,
 }
 
-const NAMES: [&str; 10] = [
+const NAMES: [&str; 11] = [
     "intersects_point",
     "intersects_segment",
     "intersects_bbox",
@@ -35,6 +40,7 @@ const NAMES: [&str; 10] = [
     "bbox_combine_group",
     "range_nearest",
     "range_within",
+    "whole_intersects_segment",
 ];
 
 /// One who answers: the Rust, or the archive.
@@ -85,6 +91,14 @@ impl Engine<'_> {
         Ok(out[0].to_bits() as u32 == 1)
     }
 
+    /// The verdict on a segment in whole numbers. Beside the Rust, which has no
+    /// such engine, this is its judge.
+    fn whole_verdict(&self, asked: &WholeAsked) -> Result<bool, String> {
+        let mut out = [0.0];
+        self.lend(Ask::WholeSegment, &whole_lent(asked), Lent::to_write(&mut out))?;
+        Ok(out[0].to_bits() as u32 == 1)
+    }
+
     /// Whether an answer is the one expected.
     fn expect<T: PartialEq + Debug>(&self, what: &str, answer: T, expected: T, of: &dyn Debug) -> Result<(), String> {
         if answer == expected {
@@ -132,6 +146,8 @@ pub fn all(ops: &[Box<dyn Op>]) -> Vec<Farm<'_>> {
         farm("members of groups", &[Ask::Group, Ask::Box], members),
         farm("nearest ranges", &[Ask::Nearest], nearest),
         farm("ranges within", &[Ask::Within], within),
+        farm("near ties", &[Ask::Segment, Ask::WholeSegment], near_ties),
+        farm("grazing lines", &[Ask::Segment, Ask::WholeSegment], grazing_lines),
     ]
 }
 
@@ -353,6 +369,30 @@ fn within(engines: &[Engine], _: u64, rng: &mut Rng) -> Result<usize, String> {
         engine.expect("the ranges within", left, (exact.len() as u32, slots.clone()), &(&ranges, p, limit))?;
     }
     Ok(if exact.is_empty() { Outcome::NONE } else { Outcome::PLACE })
+}
+
+/// Both engines, of floats and of whole numbers, on one segment.
+fn by_both(engines: &[Engine], rng: &mut Rng, six: &[WholePlane; 6], a: Whole, b: Whole) -> Result<usize, String> {
+    let planes = among_others(rng, six);
+    let exact = exact::segment(&planes, a, b);
+    let volume = farm_volume(&planes);
+    for engine in engines {
+        let by_floats = engine.verdict(Ask::Segment, &[volume.numbers(), &floats(a), &floats(b)])?;
+        engine.expect("a segment", by_floats, exact, &(&planes, a, b))?;
+        let whole = engine.whole_verdict(&WholeAsked::of(&planes, a, b))?;
+        engine.expect("a segment in whole numbers", whole, exact, &(&planes, a, b))?;
+    }
+    Ok(outcome(exact))
+}
+
+fn near_ties(engines: &[Engine], _: u64, rng: &mut Rng) -> Result<usize, String> {
+    let (six, a, b) = inputs::near_tie(rng);
+    by_both(engines, rng, &six, a, b)
+}
+
+fn grazing_lines(engines: &[Engine], _: u64, rng: &mut Rng) -> Result<usize, String> {
+    let (six, a, b) = inputs::grazing(rng);
+    by_both(engines, rng, &six, a, b)
 }
 
 impl Trial for Farm<'_> {

@@ -2,7 +2,7 @@
 //! records the judges' answers.
 //!
 //!     compare run [COUNT] [FUNCTION..]
-//!     compare grid [COUNT]
+//!     compare grid [COUNT] [KIND..]
 //!     compare farm [COUNT]
 //!     compare bench [FUNCTION..]
 //!     compare survey [FARMS]
@@ -91,11 +91,13 @@ fn compared(words: &[&str]) -> Result<bool, String> {
 }
 
 fn checked(words: &[&str]) -> Result<bool, String> {
-    let (count, []) = counted(words, COUNT)? else {
-        return Err(String::from("grid [COUNT]"));
-    };
+    let (count, kinds) = counted(words, COUNT)?;
     let ops = ops::all();
-    let trials = grid::all(&ops);
+    let mut trials = grid::all(&ops);
+    if let Some(unknown) = kinds.iter().find(|kind| trials.iter().all(|trial| trial.name() != **kind)) {
+        return Err(format!("no kind {unknown}"));
+    }
+    trials.retain(|trial| kinds.is_empty() || kinds.contains(&trial.name()));
     Ok(run::run(trials.iter().map(|trial| trial as &dyn Trial), count, seed()?))
 }
 

@@ -68,10 +68,11 @@ mod tests {
                 223 => &[4, 6, 8],
                 224 => &[3, 11],
                 225 | 226 => &[1],
+                227 => &[1, 7, 12],
                 _ => &[],
             };
             assert_eq!(statuses, refusals.iter().copied().chain([0]).collect(), "{}", op.name());
-            if matches!(op.code(), 109 | 110 | 210 | 218..=222) {
+            if matches!(op.code(), 109 | 110 | 210 | 218..=222 | 227) {
                 assert!(seen.contains(&(0, Some(0))) && seen.contains(&(0, Some(1))), "{}", op.name());
             }
         }

@@ -40,6 +40,16 @@ impl WholePlane {
     }
 }
 
+/// Paper 01's cube: x at least 0 and at most 10, then y and z alike.
+pub const WHOLE_CUBE: [WholePlane; 6] = [
+    WholePlane { normal: [1, 0, 0], distance: 0 },
+    WholePlane { normal: [-1, 0, 0], distance: -10 },
+    WholePlane { normal: [0, 1, 0], distance: 0 },
+    WholePlane { normal: [0, -1, 0], distance: -10 },
+    WholePlane { normal: [0, 0, 1], distance: 0 },
+    WholePlane { normal: [0, 0, -1], distance: -10 },
+];
+
 fn farm_planes(planes: &[WholePlane]) -> Vec<[f64; 4]> {
     planes.iter().map(|plane| plane_of(floats(plane.normal), plane.distance as f64)).collect()
 }
@@ -296,6 +306,41 @@ pub fn near_tie(rng: &mut Rng) -> ([WholePlane; 6], Whole, Whole) {
     if rng.once_in(2) { (planes, p0, p1) } else { (planes, p1, p0) }
 }
 
+/// A segment through a grid point in which it touches the view, or just does
+/// not: planes through that point that it comes in by, others that it goes out
+/// by, some that it lies in, and one of them moved by one unit at most.
+pub fn grazing(rng: &mut Rng) -> ([WholePlane; 6], Whole, Whole) {
+    let p = grid_point(rng);
+    let size = rng.pick(&[1, 3, 100, COORDINATE]);
+    let way: Whole = array::from_fn(|_| rng.whole(size));
+    let end = |rng: &mut Rng, sign: i64| -> Whole {
+        let steps = rng.pick(&[0, 1, 1, 2, 7]);
+        let end = array::from_fn(|i| p[i] + sign * steps * way[i]);
+        if on_grid(end) { end } else { p }
+    };
+    let (p0, p1) = (end(rng, -1), end(rng, 1));
+    let mut planes = [(); 6].map(|_| match rng.below(8) {
+        0 => idle_plane(rng),
+        _ => plane_by(rng, p, 0),
+    });
+    // An edge, as of the cube: one plane comes in where another goes out.
+    for (at, sign) in [(rng.below(3) as usize, 1), (3 + rng.below(3) as usize, -1)] {
+        for _ in 0..8 {
+            let normal = whole_normal(rng);
+            let normal = if whole_dot(normal, way) * sign < 0 { normal.map(|x| -x) } else { normal };
+            let plane = WholePlane { normal, distance: whole_dot(normal, p) };
+            if plane.within_limits() {
+                planes[at] = plane;
+                break;
+            }
+        }
+    }
+    let moved = &mut planes[rng.below(6) as usize];
+    let distance = moved.distance + rng.pick(&[-1, 0, 0, 1]);
+    moved.distance = distance.clamp(-DISTANCE, DISTANCE);
+    (planes, p0, p1)
+}
+
 /// A from 1 to b and c from 0 up to d such that a/b and c/d are equal, or
 /// neighbours among fractions of these denominators.
 fn adjacent(rng: &mut Rng, b: i64, d: i64) -> Option<(i64, i64)> {
@@ -457,6 +502,8 @@ mod tests {
             assert!(on_grid(a) && on_grid(b), "{case}: {planes:?} {a:?} {b:?}");
             assert!(planes.iter().all(WholePlane::within_limits), "{case}: {planes:?} {a:?} {b:?}");
             near += u64::from(planes.iter().any(|plane| (plane.reach(a) - plane.reach(b)).abs() > 49_000_000));
+            let (planes, a, b) = grazing(rng);
+            assert!(on_grid(a) && on_grid(b) && planes.iter().all(WholePlane::within_limits), "{case}");
             let (planes, farm_box) = farm_box_view(rng);
             assert!(farm_box.within_limits() && planes.iter().all(WholePlane::within_limits));
         }

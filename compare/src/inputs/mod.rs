@@ -14,6 +14,7 @@ mod solid;
 mod space;
 mod view;
 mod volume;
+mod whole;
 
 pub use camera::*;
 pub use damage::*;
@@ -28,6 +29,7 @@ pub use solid::*;
 pub use space::*;
 pub use view::*;
 pub use volume::*;
+pub use whole::*;
 
 use crate::judge::{FEWEST_PLANES, MOST_PLANES};
 

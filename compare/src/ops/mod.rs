@@ -12,6 +12,9 @@ mod projection;
 mod range;
 mod ray;
 mod verdict;
+mod whole;
+
+pub use whole::whole_lent;
 
 use crate::op::Op;
 
@@ -28,6 +31,7 @@ pub fn all() -> Vec<Box<dyn Op>> {
         camera::all(),
         group::all(),
         nearest::all(),
+        whole::all(),
     ];
     files.into_iter().flatten().collect()
 }
@@ -37,6 +41,6 @@ mod tests {
     #[test]
     fn codes_are_in_the_order_of_the_functions() {
         let codes: Vec<u64> = super::all().iter().map(|op| op.code()).collect();
-        assert_eq!(codes, (1..=7).chain(101..=116).chain(201..=226).collect::<Vec<u64>>());
+        assert_eq!(codes, (1..=7).chain(101..=116).chain(201..=227).collect::<Vec<u64>>());
     }
 }

@@ -88,7 +88,7 @@ fn of_point() -> Box<dyn Op> {
         .op()
 }
 
-fn segment_seen(volume: &[f64], count: usize, p0: &Point, p1: &Point) -> bool {
+pub(super) fn segment_seen(volume: &[f64], count: usize, p0: &Point, p1: &Point) -> bool {
     let (p0, p1) = (point(p0), point(p1));
     ask(volume, count, |v| v.intersects_segment(p0, p1), |v| v.intersects_segment(p0, p1))
 }
