@@ -560,6 +560,8 @@ mod tests {
         let engine = Engine::of(None);
         let verdict = |i: usize| engine.judged(&engine.fixed[2 * i]).1.verdict();
         assert_eq!([0, 1, 2, 3, 4].map(verdict), [1, 1, 0, 0, 0]);
+        // A corner, touched and passed by: docs/VERDICTS.md.
+        assert_eq!([10, 11].map(verdict), [1, 0]);
     }
 
     /// The Rust's floats say what is exact, of all that is tried; and so does
