@@ -1,5 +1,5 @@
-// The operations of the crates `number`, codes from 1, `matrix`, from 101, `verdict`, from 201, `camera`, 223, `group`, 224, and `nearest`,
-// 225 and 226.
+// The operations of the crates `number`, codes from 1, `matrix`, from 101, `verdict`, from 201, `camera`, 223, `group`, 224, `nearest`,
+// 225 and 226, and `whole`, 227.
 ghost use Prim.Native.Nat.{_<_};
 use crate::camera_operations;
 use crate::group_operations;
@@ -7,6 +7,7 @@ use crate::matrix_operations;
 use crate::nearest_operations;
 use crate::number_operations;
 use crate::verdict_operations;
+use crate::whole_operations;
 use replay::inputs::first;
 use replay::inputs::rest;
 
@@ -26,6 +27,9 @@ pub(crate) fn lengths(code: u64, given: usize) -> [u8; 5] {
     }
     if (code == 225) | (code == 226) {
         return nearest_operations::lengths(code, given);
+    }
+    if code == 227 {
+        return whole_operations::lengths(given);
     }
     camera_operations::lengths(code)
 }
@@ -71,6 +75,9 @@ pub(crate) fn call(code: u64, given: &[f64], lengths: [u8; 5], out: &mut [f64]) 
     }
     if (code == 225) | (code == 226) {
         return nearest_operations::call(code, a, b, c, out);
+    }
+    if code == 227 {
+        return whole_operations::call(a, b, c, out);
     }
     camera_operations::call(a, b, c, out)
 }

@@ -1,5 +1,5 @@
 // Replays answers recorded from Rust. For each operation the program writes how many of its records the
-// crates `number`, `matrix`, `verdict`, `camera`, `group` and `nearest` agree with, and how many it read.
+// crates `number`, `matrix`, `verdict`, `camera`, `group`, `nearest` and `whole` agree with, and how many it read.
 mod calls;
 mod camera_operations;
 mod group_operations;
@@ -8,6 +8,7 @@ mod nearest_operations;
 mod number_operations;
 mod record;
 mod verdict_operations;
+mod whole_operations;
 
 use record::print_count;
 use record::replay_all;
@@ -94,6 +95,10 @@ fn print_nearest_counts(agreed: &[u64; 256], read: &[u64; 256]) {
     print_count(b"range_within", 226, agreed, read);
 }
 
+fn print_whole_counts(agreed: &[u64; 256], read: &[u64; 256]) {
+    print_count(b"whole_intersects_segment", 227, agreed, read);
+}
+
 fn main() {
     let mut agreed = [0u64; 256];
     let mut read = [0u64; 256];
@@ -109,4 +114,5 @@ fn main() {
     print_camera_counts(&agreed, &read);
     print_group_counts(&agreed, &read);
     print_nearest_counts(&agreed, &read);
+    print_whole_counts(&agreed, &read);
 }

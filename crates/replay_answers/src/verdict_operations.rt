@@ -9,7 +9,7 @@ use verdict::plane_calls;
 use verdict::ray_calls;
 
 // The length of a volume that is given with so many other numbers: any up to that of one plane too many.
-fn volume(given: usize, others: usize) -> u8 {
+pub(crate) fn volume(given: usize, others: usize) -> u8 {
     if given < others {
         return 0;
     }
