@@ -1,6 +1,6 @@
 //! Exact verdicts on the farm grid, by whole numbers alone.
 
-use crate::inputs::{Whole, WholePlane};
+use crate::inputs::{ClipBox, ExactPoint, Whole, WholeMatrix, WholePlane};
 
 /// Whether a point satisfies all planes.
 pub fn point(planes: &[WholePlane], p: Whole) -> bool {
@@ -104,10 +104,28 @@ pub fn within(ranges: &[[Whole; 2]], p: Whole, limit: i64) -> Vec<usize> {
     (0..ranges.len()).filter(|&i| square_to(&ranges[i], p).is_some_and(|square| square <= limit)).collect()
 }
 
+/// The clip point of an exact point of a box's range, multiplied through by
+/// the point's k: x, y, z and w.
+pub fn clip_point(b: &ClipBox, camera: &WholeMatrix, p: &ExactPoint) -> [i128; 4] {
+    ExactPoint::through(p.placed(b), p.k, camera)
+}
+
+/// Whether x, y and z are each strictly between −w and w.
+pub fn in_clip_volume([x, y, z, w]: [i128; 4]) -> bool {
+    [x, y, z].into_iter().all(|x| -w < x && x < w)
+}
+
+/// Whether along each axis some corner's clip point is above −w and some
+/// corner's is below w.
+pub fn each_side(b: &ClipBox, camera: &WholeMatrix) -> bool {
+    let corners: [[i128; 4]; 8] = std::array::from_fn(|k| clip_point(b, camera, &b.corner(k)));
+    (0..3).all(|i| corners.iter().any(|c| -c[3] < c[i]) && corners.iter().any(|c| c[i] < c[3]))
+}
+
 #[cfg(test)]
 mod tests {
     use super::*;
-    use crate::inputs::{FarmBox, Rng, Turn, WHOLE_CUBE, among_others, grazing, near_tie};
+    use crate::inputs::{self, BESIDE_EDGE, FarmBox, Rng, Turn, WHOLE_CUBE, WHOLE_IDENTITY, among_others, grazing, near_tie};
 
     /// Both ways, on crossings that coincide or all but do.
     #[test]
@@ -153,5 +171,41 @@ mod tests {
         assert!(!unplaced([11, 0, 0], [12, 1, 1]));
         assert!(turned(0));
         assert!(!turned(-1));
+    }
+
+    /// Corners inside each side and no common point: x + y is at least 3 in
+    /// the block, and below 2 in the clip volume.
+    #[test]
+    fn a_block_beside_an_edge() {
+        assert!(each_side(&BESIDE_EDGE, &WHOLE_IDENTITY));
+        for at in 0..11_i64.pow(3) {
+            let point = ExactPoint { numbers: [at % 11, at / 11 % 11, at / 121], k: 10 };
+            let clip = clip_point(&BESIDE_EDGE, &WHOLE_IDENTITY, &point);
+            assert!(clip[0] + clip[1] >= 30 && clip[3] == 10 && !in_clip_volume(clip));
+        }
+    }
+
+    /// A test by seven corners loses a box of which a point is in the clip
+    /// volume, whichever corner it leaves out; so does one that lets no corner
+    /// pass that is inside by one unit alone.
+    #[test]
+    fn tests_that_lose_a_box() {
+        let mut lost = [0_u64; 9];
+        for case in 0..100_000 {
+            let (b, camera, point) = inputs::clip_case(case, &mut Rng::at(5, case));
+            if !in_clip_volume(clip_point(&b, &camera, &point)) {
+                continue;
+            }
+            assert!(each_side(&b, &camera));
+            let corners: [[i128; 4]; 8] = std::array::from_fn(|k| clip_point(&b, &camera, &b.corner(k)));
+            for (slip, lost) in lost.iter_mut().enumerate() {
+                let (used, least) = if slip < 8 { (!(1 << slip), 1) } else { (!0, 2) };
+                let some = |i: usize, sign: i128| {
+                    (0..8).any(|k| used >> k & 1 == 1 && corners[k][3] - sign * corners[k][i] >= least)
+                };
+                *lost += u64::from(!(0..3).all(|i| some(i, 1) && some(i, -1)));
+            }
+        }
+        assert!(lost.iter().all(|&n| n > 100), "{lost:?}");
     }
 }

@@ -1,6 +1,6 @@
 //! The farm grid by a second judge, exact whole numbers: verdicts, turns,
-//! combining, what is nearest, and both engines on lines that graze. The Rust is
-//! judged as the archive is.
+//! combining, what is nearest, both engines on lines that graze, and clip
+//! space. The Rust is judged as the archive is.
 
 use crate::exact;
 use crate::inputs::{
@@ -27,9 +27,10 @@ enum Ask {
     Nearest,
     Within,
     WholeSegment,
+    ViewVolume,
 }
 
-const NAMES: [&str; 11] = [
+const NAMES: [&str; 12] = [
     "intersects_point",
     "intersects_segment",
     "intersects_bbox",
@@ -41,6 +42,7 @@ const NAMES: [&str; 11] = [
     "range_nearest",
     "range_within",
     "whole_intersects_segment",
+    "intersects_view_volume",
 ];
 
 /// One who answers: the Rust, or the archive.
@@ -148,6 +150,7 @@ pub fn all(ops: &[Box<dyn Op>]) -> Vec<Farm<'_>> {
         farm("ranges within", &[Ask::Within], within),
         farm("near ties", &[Ask::Segment, Ask::WholeSegment], near_ties),
         farm("grazing lines", &[Ask::Segment, Ask::WholeSegment], grazing_lines),
+        farm("points in clip space", &[Ask::ViewVolume], clipped),
     ]
 }
 
@@ -395,6 +398,20 @@ fn grazing_lines(engines: &[Engine], _: u64, rng: &mut Rng) -> Result<usize, Str
     by_both(engines, rng, &six, a, b)
 }
 
+/// A box of which an exact point is in the clip volume is not lost; and the
+/// verdict is the exact one of its corners. A yes is a point in the volume.
+fn clipped(engines: &[Engine], case: u64, rng: &mut Rng) -> Result<usize, String> {
+    let (given, camera, point) = inputs::clip_case(case, rng);
+    let inside = exact::in_clip_volume(exact::clip_point(&given, &camera, &point));
+    let by_corners = exact::each_side(&given, &camera);
+    for engine in engines {
+        let verdict = engine.verdict(Ask::ViewVolume, &[&given.record(), &inputs::whole_matrix(&camera)])?;
+        engine.expect("a box lost", inside && !verdict, false, &(given, camera, point))?;
+        engine.expect("a box in clip space", verdict, by_corners, &(given, camera))?;
+    }
+    Ok(outcome(inside))
+}
+
 impl Trial for Farm<'_> {
     fn name(&self) -> &'static str {
         self.name
@@ -414,5 +431,32 @@ impl Trial for Farm<'_> {
 
     fn describe(&self, case: u64, mut rng: Rng) -> String {
         (self.tried)(&self.engines, case, &mut rng).err().unwrap_or_default()
+    }
+}
+
+#[cfg(test)]
+mod tests {
+    use super::*;
+    use crate::inputs::{ClipBox, ExactPoint, WHOLE_IDENTITY, WholeMatrix, whole_matrix};
+    use crate::rust;
+    use openusd::gf;
+
+    /// Past the limits a clip point is rounded and a box is lost: x is 2^54,
+    /// and w one more.
+    #[test]
+    fn past_the_limits_a_box_is_lost() {
+        let lost = |scale: i64, camera: i64| {
+            let mut matrix: WholeMatrix = WHOLE_IDENTITY;
+            matrix[0][0] = scale;
+            let far = [inputs::COORDINATE, 0, 0];
+            let given = ClipBox { min: far, max: far, matrix, flag: 0.0 };
+            let camera: WholeMatrix = [[camera, 0, 0, camera], [0; 4], [0; 4], [0, 0, 0, 1]];
+            assert!(exact::in_clip_volume(exact::clip_point(&given, &camera, &ExactPoint { numbers: far, k: 1 })));
+            let boxed = rust::boxed_without_inverse(&given.record()).expect("a flag");
+            !gf::Frustum::intersects_view_volume(&boxed, rust::matrix(&whole_matrix(&camera)))
+        };
+        assert!(!lost(inputs::BOX_ENTRY, inputs::CAMERA_ENTRY));
+        assert!(lost(1 << 26, inputs::CAMERA_ENTRY));
+        assert!(lost(inputs::BOX_ENTRY, 1 << 22));
     }
 }

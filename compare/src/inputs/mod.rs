@@ -2,6 +2,7 @@
 //! numbers are given by their bits, those of an f32 in the low half.
 
 mod camera;
+mod clip;
 mod damage;
 mod farm;
 mod file;
@@ -17,6 +18,7 @@ mod volume;
 mod whole;
 
 pub use camera::*;
+pub use clip::*;
 pub use damage::*;
 pub use farm::*;
 pub use file::*;

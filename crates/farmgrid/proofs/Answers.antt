@@ -7,7 +7,7 @@ use native.Mathlib.Omega.{arith}
 use borrow.Author.Tests.{eq-eqb}
 use lib.ListN.{length}
 use lib.Ieee.{Float}
-use Rattle.number.specs.Limits.{boxLength}
+use Rattle.number.specs.Limits.{boxLength, matrixLength}
 use Rattle.number.specs.Answer.{result, write, leaving}
 use Rattle.number.specs.Slice.{at}
 use Rattle.matrix.specs.Vec.{vec3Of, coordinates}
@@ -19,8 +19,8 @@ use Rattle.verdict.specs.BBox.{boxOf, numbers, transformedBox, alignedRange}
 use Rattle.verdict.specs.BBoxCalls.{flagged, transformBoxCall, alignedRangeCall}
 use Rattle.verdict.specs.declared.plane.Plane.{Plane}
 use Rattle.verdict.specs.View.{planesHeld, planesOf}
-use Rattle.verdict.specs.Frustum.{pointInView, segmentInView, boxInView}
-use Rattle.verdict.specs.FrustumCalls.{intersectsPointCall, intersectsSegmentCall, intersectsBoxCall}
+use Rattle.verdict.specs.Frustum.{pointInView, segmentInView, boxInView, boxInViewVolume}
+use Rattle.verdict.specs.FrustumCalls.{haveLengths, verdictAfter, intersectsPointCall, intersectsSegmentCall, intersectsBoxCall, viewVolumeCall}
 use Rattle.verdict.proofs.PlanesHeld.{all-held}
 use Rattle.verdict.proofs.VerdictCalls.{point-answered, segment-answered, box-answered}
 use Rattle.farmgrid.specs.Records.{VolumeRecord}
@@ -46,6 +46,12 @@ module _ (v : List Float) {n : ℕ} (W : VolumeRecord v n) where
 
   pub box-answer : (b : List Float) → length b ≡ boxLength → flagged b ≡ true → intersectsBoxCall v b ≡ result (boxInView planes (boxOf b))
   box-answer = box-answered v n passed
+
+-- by a camera's matrix
+pub clip-answer : (b m : List Float) → length b ≡ boxLength → length m ≡ matrixLength → flagged b ≡ true
+    → viewVolumeCall b m ≡ result (boxInViewVolume (boxOf b) (matrixOf m))
+unfolding viewVolumeCall haveLengths verdictAfter
+clip-answer b m h i f = rw (eq-eqb _ _ h, eq-eqb _ _ i, f)
 
 -- ---- operations that write
 

@@ -44,6 +44,12 @@ pub mod BothEngines
 -- the nearest range
 pub mod RangeDistance
 pub mod Nearest
+-- clip space
+pub mod Below
+pub mod RangeCorners
+pub mod ClipSides
+pub mod ClipSpace
+pub mod ClipOutside
 -- surveys
 pub mod Survey
 -- turns

@@ -81,13 +81,20 @@ last-moved f zeros last p = rw (last-turned f zeros p, last)
 
 -- ---- products
 
--- the rows of a product are the rows of its first factor turned, and the last one moved, by the second
+-- the rows of a product are the rows of its first factor turned, and the last one moved, by the second, by the last column of the first alone
+module _ (f g : ℕ → ℕ → ℤ) where
+  pub affine-turned : ((i : ℕ) → i < 3 → f i 3 ≡ pos 0) → (i j : ℕ) → i < 3 → productℤ f g i j ≡ turnedℤ g (f i) j
+  affine-turned zeros i j h = ap (λ (z : ℤ). turnedℤ g (f i) j +ℤ z *ℤ g 3 j) (zeros i h) ∙ plus-zero (turnedℤ g (f i) j) (g 3 j)
+
+  pub affine-moved : f 3 3 ≡ pos 1 → (j : ℕ) → productℤ f g 3 j ≡ movedℤ g (f 3) j
+  affine-moved last j = ap (λ (z : ℤ). turnedℤ g (f 3) j +ℤ z *ℤ g 3 j) last ∙ plus-one (turnedℤ g (f 3) j) (g 3 j)
+
 module _ {b : ℕ} {f : ℕ → ℕ → ℤ} (F : PlacementWithin b f) (g : ℕ → ℕ → ℤ) where
   pub product-turned : (i j : ℕ) → i < 3 → productℤ f g i j ≡ turnedℤ g (f i) j
-  product-turned i j h = ap (λ (z : ℤ). turnedℤ g (f i) j +ℤ z *ℤ g 3 j) (F .zeros i h) ∙ plus-zero (turnedℤ g (f i) j) (g 3 j)
+  product-turned = affine-turned f g (F .zeros)
 
   pub product-moved : (j : ℕ) → productℤ f g 3 j ≡ movedℤ g (f 3) j
-  product-moved j = ap (λ (z : ℤ). turnedℤ g (f 3) j +ℤ z *ℤ g 3 j) (F .last) ∙ plus-one (turnedℤ g (f 3) j) (g 3 j)
+  product-moved = affine-moved f g (F .last)
 
 pub same-sizes : (p q : ℕ → ℤ) → ((i : ℕ) → i < 3 → natAbs (p i) ≡ natAbs (q i)) → sizes p ≡ sizes q
 same-sizes p q e t = e 0 (lit< tt) t + e 1 (lit< tt) t + e 2 (lit< tt) t

@@ -20,14 +20,10 @@ use Rattle.matrix.specs.Vec.{axis, axis4, dot, dot4}
 use Rattle.matrix.specs.Matrix.{entry, rowTimes, product, transpose}
 use Rattle.matrix.specs.Transform as Transform
 use Rattle.matrix.specs.Transform.{column, moved, affine, divisor, homogeneous}
-use Rattle.farmgrid.specs.Placement.{WholeVec, WholeVec4, WholeMatrix, Within}
+use Rattle.farmgrid.specs.Placement.{WholeVec, WholeVec4, WholeMatrix, Within, Sized}
 use Rattle.farmgrid.specs.Placement.{dot4ℤ, columnℤ, turnedℤ, movedℤ, productℤ}
 use Rattle.farmgrid.proofs.QuarterTurns.{transposeℤ, last-moved}
 use Rattle.farmgrid.proofs.WholeSums.{one-whole, over-unit, axis-fit, dot-fit, dot4-fit, row-fit, whole-vec3, whole-vec4, whole-matrix}
-
--- every number of the matrix is of size at most b
-pub record Sized (b : ℕ) (f : ℕ → ℕ → ℤ) : Type 0 where
-  pub size : (i j : ℕ) → i < 4 → j < 4 → natAbs (f i j) ≤ b
 
 pub sized-fit : {b : ℕ} {m : Mat4d} {f : ℕ → ℕ → ℤ} → WholeMatrix m f → Sized b f → (i j : ℕ) → i < 4 → j < 4 → Fit (entry m i j) (f i j) b
 sized-fit M F i j h k = record { whole = M .at i j h k; size = F .size i j h k }

@@ -15,11 +15,11 @@ use Rattle.matrix.specs.declared.matrix.Mat4d.{Mat4d}
 use Rattle.matrix.specs.Matrix.{entry, product, transpose, determinant3}
 use Rattle.matrix.specs.Transform as Transform
 use Rattle.matrix.specs.Transform.{homogeneous}
-use Rattle.farmgrid.specs.Placement.{WholeVec, WholeVec4, WholeMatrix, Within, PlacementWithin}
+use Rattle.farmgrid.specs.Placement.{WholeVec, WholeVec4, WholeMatrix, Within, Sized, PlacementWithin}
 use Rattle.farmgrid.specs.Placement.{dot4ℤ, movedℤ, productℤ}
 use Rattle.farmgrid.proofs.Singles.{four}
 use Rattle.farmgrid.proofs.QuarterTurns.{determinantℤ, turn-size, upper-size}
-use Rattle.farmgrid.proofs.WholeMatrices.{Sized, point-computed, product-computed, transpose-whole, homogeneous-computed}
+use Rattle.farmgrid.proofs.WholeMatrices.{point-computed, product-computed, transpose-whole, homogeneous-computed}
 
 -- the bound of coordinates and translations under which all this is exact, far more than the grid needs
 abbrev pub wide : ℕ

@@ -4,6 +4,7 @@ pub mod Placement
 pub mod FarmGrid
 pub mod Records
 pub mod Verdicts
+pub mod ClipSpace
 pub mod Screens
 pub mod WholeNumbers
 pub mod Nearest

@@ -35,6 +35,10 @@ pub record WholeMatrix (m : Mat4d) (f : ℕ → ℕ → ℤ) : Type 0 where
 pub record Within (b : ℕ) (p : ℕ → ℤ) : Type 0 where
   pub size : (i : ℕ) → i < 3 → natAbs (p i) ≤ b
 
+-- and for every number of a matrix
+pub record Sized (b : ℕ) (f : ℕ → ℕ → ℤ) : Type 0 where
+  pub size : (i j : ℕ) → i < 4 → j < 4 → natAbs (f i j) ≤ b
+
 -- "Empty means min > max on some axis."
 pub record NonEmpty (low high : ℕ → ℤ) : Type 0 where
   pub ordered : (i : ℕ) → i < 3 → low i ≤ℤ high i
