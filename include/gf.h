@@ -71,7 +71,7 @@
 
 /* The limits of a volume's count of planes, and of a view's. */
 #define GF_FEWEST_PLANES 6
-#define GF_MOST_PLANES 32
+#define GF_MOST_PLANES 14
 
 /* The most ranges of a call that takes several, and no place. */
 #define GF_MOST_RANGES 1024

@@ -34,7 +34,7 @@ pub const NO_PLACE: u32 = u32::MAX;
 
 /// How many planes a volume has at least and at most.
 pub const FEWEST_PLANES: usize = 6;
-pub const MOST_PLANES: usize = 32;
+pub const MOST_PLANES: usize = 14;
 
 /// Paper 01's rule: equal bits, both NaN, or both zero.
 pub fn matches(judge: f64, ours: f64) -> bool {

@@ -202,7 +202,7 @@ fn other_volume(rng: &mut Rng, file: &mut FarmFile) {
     let whole = file.bytes.split_off(file.offset(0) as usize);
     match rng.below(4) {
         0 => {
-            let many = with_planes(CUBE, MOST_PLANES + 1);
+            let many = with_planes(CUBE, rng.pick(&TOO_MANY));
             let few = Volume::new(&CUBE[..4 * (FEWEST_PLANES - 1)].as_chunks().0, &[0.0; 24]);
             file.put(0, &bytes_of(rng.pick(&[few, many]).numbers()));
         }

@@ -284,22 +284,17 @@ fn walled(planes: usize, place: usize) -> Volume {
     Volume::with_more(CUBE, &more)
 }
 
-/// Those of these numbers that a volume can have of planes.
-fn counts(of: &[usize]) -> impl Iterator<Item = usize> {
-    of.iter().copied().filter(|&count| count <= MOST_PLANES)
-}
-
 /// How many planes the volume has, and how long it is.
 fn planes(list: &mut List) {
-    for count in counts(&[7, 14, MOST_PLANES]) {
+    for count in [7, MOST_PLANES] {
         list.add(0, format!("{count} planes, some further out"), viewed(with_planes(CUBE, count), 4));
     }
     list.add(0, "a wall as the last of 7 planes, and a block before it", viewed(walled(7, 0), 4));
-    for count in counts(&[8, 14, 15, 17, MOST_PLANES - 1, MOST_PLANES]) {
+    for count in [8, 11, MOST_PLANES - 1, MOST_PLANES] {
         list.add(0, format!("a wall as the last of {count} planes"), viewed(walled(count, count - 7), 1));
     }
     let further = MOST_PLANES - FEWEST_PLANES;
-    for place in [0, 1, 9, 24].into_iter().filter(|&place| place < further) {
+    for place in [0, 1, further / 2] {
         list.add(0, format!("a wall at place {place} of {further}"), viewed(walled(MOST_PLANES, place), 1));
     }
     let walled_rays = Volume::new(&CUBE[..24].as_chunks().0.repeat(2)[..7], &[-1.0; 24]);
@@ -328,7 +323,9 @@ fn planes(list: &mut List) {
     list.add(WRONG_SECTION, "a count of 6 for 7 planes", viewed(with_planes(CUBE, 7).counted(6.0), 1));
     let five = Volume::new(&CUBE[..20].as_chunks().0, &[0.0; 24]);
     list.add(WRONG_SECTION, "5 planes", viewed(five, 1));
-    list.add(NO_COUNT, "a plane too many", viewed(with_planes(CUBE, MOST_PLANES + 1), 1));
+    for count in TOO_MANY {
+        list.add(NO_COUNT, format!("{count} planes, too many"), viewed(with_planes(CUBE, count), 1));
+    }
     // Lengths about those of 7 planes and of the most.
     for length in [392, 423, 425, 432, 456] {
         let file = viewed_of_lengths(with_planes(CUBE, 7), 1, &[(0, length)]);

@@ -10,17 +10,24 @@ pub const fn volume_length(planes: usize) -> usize {
 /// Six planes and four rays, without their count.
 pub type Six = [f64; 48];
 
-/// A record of a volume, of any length up to that of one plane too many.
+/// The most planes of a record that is tried: one more than the 32 that there could once be.
+pub const PLANES_TRIED: usize = 33;
+
+/// Numbers of planes that are too many: one more than the most, the most that
+/// there could once be, and one more than these.
+pub const TOO_MANY: [usize; 3] = [MOST_PLANES + 1, PLANES_TRIED - 1, PLANES_TRIED];
+
+/// A record of a volume, of up to so many planes.
 #[derive(Clone, Copy)]
 pub struct Volume {
-    numbers: [f64; volume_length(MOST_PLANES + 1)],
+    numbers: [f64; volume_length(PLANES_TRIED)],
     len: usize,
 }
 
 impl Volume {
     /// These planes, with their count in front and the rays behind.
     pub fn new(planes: &[[f64; 4]], rays: &[f64; 24]) -> Volume {
-        let mut numbers = [0.0; volume_length(MOST_PLANES + 1)];
+        let mut numbers = [0.0; volume_length(PLANES_TRIED)];
         let len = volume_length(planes.len());
         numbers[0] = planes.len() as f64;
         numbers[1..][..4 * planes.len()].copy_from_slice(planes.as_flattened());
@@ -54,13 +61,15 @@ impl Volume {
 const MOST: f64 = MOST_PLANES as f64;
 
 /// Numbers that are no count, and some that are.
-pub const COUNTS: [f64; 26] = [
+pub const COUNTS: [f64; 28] = [
     6.0,
     7.0,
     MOST - 1.0,
     MOST,
     5.0,
     MOST + 1.0,
+    32.0,
+    33.0,
     0.0,
     -0.0,
     1.0,
@@ -112,7 +121,8 @@ pub fn screened(rng: &mut Rng, six: Six) -> Volume {
     let further = if rng.below(2) == 0 { 0 } else { rng.below((MOST_PLANES - FEWEST_PLANES) as u64 + 1) as usize };
     let volume = with_further(rng, six, further);
     if rng.once_in(64) {
-        return with_further(rng, six, MOST_PLANES - FEWEST_PLANES + 1);
+        let planes = rng.pick(&TOO_MANY);
+        return with_further(rng, six, planes - FEWEST_PLANES);
     }
     match rng.below(32) {
         0..3 => volume.counted(other_planes(rng, volume.numbers[0])),

@@ -84,13 +84,15 @@ pub const EXTREMES: [fn(i32) -> i32; 12] = [
 
 /// Numbers that are no count, and some that are. Four times some of these is
 /// 24 in 32 bits.
-pub const WHOLE_COUNTS: [i32; 20] = [
+pub const WHOLE_COUNTS: [i32; 22] = [
     6,
     7,
     MOST_PLANES as i32 - 1,
     MOST_PLANES as i32,
     5,
     MOST_PLANES as i32 + 1,
+    32,
+    33,
     0,
     1,
     -1,
@@ -145,7 +147,7 @@ pub fn whole_asked(rng: &mut Rng) -> WholeAsked {
             }
             _ => {
                 let most = whole_length(MOST_PLANES);
-                let any = rng.below(most as u64 + 30) as usize;
+                let any = rng.below(whole_length(PLANES_TRIED) as u64 + 30) as usize;
                 // One number more or less, a plane, the four rays.
                 let lengths = [view + 1, view.saturating_sub(1), view + 4, view.saturating_sub(4), view + 24];
                 let lengths = [&lengths[..], &[24, 25, 26, 48, 49, most, most + 1, most + 4, any, any, 0]].concat();

@@ -18,12 +18,16 @@ const FAR: f64 = f64::INFINITY;
 fn odd_counts() -> impl Iterator<Item = Volume> {
     let six = inputs::COUNTS.into_iter().map(|count| Volume::of(CUBE).counted(count));
     let full = inputs::with_planes(CUBE, MOST_PLANES);
-    let most = MOST_PLANES as f64;
-    let most = [6.0, most - 1.0, most, most + 1.0, most + 0.5, NAN].into_iter().map(move |count| full.counted(count));
+    let most_planes = MOST_PLANES as f64;
+    let most = [6.0, most_planes - 1.0, most_planes, most_planes + 1.0, most_planes + 0.5, 32.0, NAN]
+        .into_iter()
+        .map(move |count| full.counted(count));
     // Fifty and 52 numbers behind a count of six, and a plane too many.
     let more = [7, 8, MOST_PLANES - 1, MOST_PLANES + 1].map(|planes| inputs::with_planes(CUBE, planes).counted(6.0));
-    let others = [5, MOST_PLANES + 1].map(|planes| inputs::with_planes(CUBE, planes));
-    six.chain(most).chain(more).chain(others)
+    let few = [5].map(|planes| inputs::with_planes(CUBE, planes));
+    let many = inputs::TOO_MANY.map(|planes| inputs::with_planes(CUBE, planes));
+    let counted_as_most = inputs::TOO_MANY.map(|planes| inputs::with_planes(CUBE, planes).counted(most_planes));
+    six.chain(most).chain(more).chain(few).chain(many).chain(counted_as_most)
 }
 
 const UNIT: Range = [0.0, 0.0, 0.0, 1.0, 1.0, 1.0];
@@ -77,14 +81,13 @@ fn of_point() -> Box<dyn Op> {
         [(short[0], [0.5; 3]), ([0.0; 48], [1.0; 3]), ([NAN; 48], [1.0; 3]), (with(CUBE, &[(3, NAN)]), [5.0; 3])];
     let six =
         call!(218 gf_intersects_point(volume: 49, p: 3) -> bool { Ok(planes(volume).intersects_point(point(p))) });
-    let many = || call!(218 gf_intersects_point(volume: Volume, p: 3) -> bool { Ok(point_seen(volume, count_by_length(volume), p)) });
+    let many = call!(218 gf_intersects_point(volume: Volume, p: 3) -> bool { Ok(point_seen(volume, count_by_length(volume), p)) });
     call!(218 gf_intersects_point(volume: Volume, p: 3) -> bool { Ok(point_seen(volume, held(volume)?, p)) })
         .fixed(fixed.chain(more).map(|(six, p)| (Volume::of(six), p)).chain(counts).chain(screened).collect())
         .mended(mended().map(|volume| (volume, [5.0; 3])).into())
         .drawn(|_, rng| inputs::volume_and_point(rng))
         .timed_by("frustums", |_, rng| timed_point(rng, 6), six)
-        .timed_by("frustums, 14 planes", |_, rng| timed_point(rng, 14), many())
-        .timed_by("frustums, the most planes", |_, rng| timed_point(rng, MOST_PLANES), many())
+        .timed_by("frustums, the most planes", |_, rng| timed_point(rng, MOST_PLANES), many)
         .op()
 }
 
@@ -151,11 +154,9 @@ fn of_segment() -> Box<dyn Op> {
     let by_six = call!(219 gf_intersects_segment(volume: 49, p0: 3, p1: 3) -> bool {
         Ok(planes(volume).intersects_segment(point(p0), point(p1)))
     });
-    let by_many = || {
-        call!(219 gf_intersects_segment(volume: Volume, p0: 3, p1: 3) -> bool {
-            Ok(segment_seen(volume, count_by_length(volume), p0, p1))
-        })
-    };
+    let by_many = call!(219 gf_intersects_segment(volume: Volume, p0: 3, p1: 3) -> bool {
+        Ok(segment_seen(volume, count_by_length(volume), p0, p1))
+    });
     call!(219 gf_intersects_segment(volume: Volume, p0: 3, p1: 3) -> bool {
         Ok(segment_seen(volume, held(volume)?, p0, p1))
     })
@@ -163,8 +164,7 @@ fn of_segment() -> Box<dyn Op> {
     .mended(mended().map(|volume| (volume, [-5.0, 5.0, 5.0], [5.0; 3])).into())
     .drawn(|_, rng| inputs::volume_and_segment(rng))
     .timed_by("frustums", |_, rng| timed_segment(rng, 6), by_six)
-    .timed_by("frustums, 14 planes", |_, rng| timed_segment(rng, 14), by_many())
-    .timed_by("frustums, the most planes", |_, rng| timed_segment(rng, MOST_PLANES), by_many())
+    .timed_by("frustums, the most planes", |_, rng| timed_segment(rng, MOST_PLANES), by_many)
     .op()
 }
 
@@ -315,15 +315,15 @@ fn of_box() -> Box<dyn Op> {
     };
     let six =
         || call!(221 gf_intersects_bbox(volume: 49, b: 23) -> bool { Ok(planes(volume).intersects_bbox(&boxed(b)?)) });
-    let many = || call!(221 gf_intersects_bbox(volume: Volume, b: 23) -> bool { box_seen(volume, count_by_length(volume), b) });
+    let many =
+        call!(221 gf_intersects_bbox(volume: Volume, b: 23) -> bool { box_seen(volume, count_by_length(volume), b) });
     call!(221 gf_intersects_bbox(volume: Volume, b: 23) -> bool { box_seen(volume, held(volume)?, b) })
         .fixed(fixed.chain(counts).chain(walls).collect())
         .mended(mended_boxes)
         .drawn(|_, rng| inputs::volume_and_box(rng))
         .timed_by("frustums, scaled boxes", scaled_boxes, six())
         .timed_by("frustums, rigid boxes", |_, rng| timed_box(rng, 6), six())
-        .timed_by("14 planes, rigid boxes", |_, rng| timed_box(rng, 14), many())
-        .timed_by("the most planes, rigid boxes", |_, rng| timed_box(rng, MOST_PLANES), many())
+        .timed_by("the most planes, rigid boxes", |_, rng| timed_box(rng, MOST_PLANES), many)
         .op()
 }
 

@@ -8,8 +8,8 @@ use super::verdict::segment_seen;
 use crate::exact;
 use crate::exported::of_archive;
 use crate::inputs::{
-    self, COORDINATE, DISTANCE, EXTREMES, NORMAL, Rng, WHOLE_COUNTS, WHOLE_CUBE, Whole, WholeAsked, WholePlane,
-    farm_volume, floats, mixed, on_grid, whole_length,
+    self, COORDINATE, DISTANCE, EXTREMES, NORMAL, PLANES_TRIED, Rng, TOO_MANY, WHOLE_COUNTS, WHOLE_CUBE, Whole,
+    WholeAsked, WholePlane, farm_volume, floats, mixed, on_grid, whole_length,
 };
 use crate::judge::{FEWEST_PLANES, MOST_PLANES, NO_COUNT, OFF_GRID, WRONG_INPUT};
 use crate::lent::{Ins, Lent, Pointer, Side};
@@ -295,14 +295,15 @@ fn fixed() -> Vec<WholeAsked> {
     }
     // Numbers that are no count, on views of several lengths.
     for count in WHOLE_COUNTS {
-        for planes in [FEWEST_PLANES, FEWEST_PLANES + 1, MOST_PLANES, MOST_PLANES + 1] {
+        for planes in [FEWEST_PLANES, FEWEST_PLANES + 1, MOST_PLANES].into_iter().chain(TOO_MANY) {
             all.push(WholeAsked::of(&cube_of(planes), p0, p1).counted(count));
         }
     }
     // Other lengths: below the least, beside it, with rays, with one plane
     // more or less than the count says.
     let six = || WholeAsked::of(&WHOLE_CUBE, p0, p1);
-    let lengths = [0, 1, 2, 5, 21, 23, 24, 26, 27, 28, 29, 31, 33, 48, 49, whole_length(MOST_PLANES), 200];
+    let lengths = [0, 1, 2, 5, 21, 23, 24, 26, 27, 28, 29, 31, 33, 48, 49, 200].into_iter();
+    let lengths = lengths.chain([MOST_PLANES, PLANES_TRIED].map(whole_length));
     all.extend(lengths.map(|view| six().cut(view, 3, 3)));
     all.extend([0, 1, 2, 4, 5, 6].map(|end| six().cut(25, end, 3)));
     all.extend([0, 1, 2, 4, 5, 6].map(|end| six().cut(25, 3, end)));
@@ -463,7 +464,6 @@ impl Timed for Engine {
         };
         let sets = [
             ("frustums, plain i64", "frustums, our floats", FEWEST_PLANES),
-            ("the same, 14 planes", "14 planes, our floats", 14.min(MOST_PLANES)),
             ("the same, the most", "the most, our floats", MOST_PLANES),
         ];
         sets.into_iter().flat_map(timing).collect()
@@ -478,7 +478,7 @@ fn is_recorded(asked: &WholeAsked) -> bool {
     let right = usize::try_from(asked.view.first().copied().unwrap_or(0)).ok().map(whole_length);
     let apart = right.is_some_and(|right| right == view || right.abs_diff(view) > 1);
     let ends = asked.p0.len() == 3 && asked.p1.len() == 3;
-    ends && (26..=whole_length(MOST_PLANES + 1)).contains(&(view + 1)) && (apart || right.is_none())
+    ends && (26..=whole_length(PLANES_TRIED)).contains(&(view + 1)) && (apart || right.is_none())
 }
 
 impl Op for Engine {

@@ -149,6 +149,6 @@ pub(crate) fn file_slots(file: &[u8], planes: u32, out: &mut [u32])
     ensures { λ _. ⌜ now (out .exit) ≡ slots (map (inView (now (file .entry))) (boxSections (now (file .entry)))) ⌝ }
 {
     // room for the most planes
-    let mut room = [0.0f64; 153];
+    let mut room = [0.0f64; 81];
     box_slots_in(&mut room, file, planes, out);
 }

@@ -39,7 +39,7 @@ pub record PlaneCount (x : Float) (n : ℕ) : Type 0 where
 abbrev pub CountExact : Type 0
 CountExact = (x : Float) (n : ℕ) → (planeCountOf x ≡ result n) ↔ PlaneCount x n
 
--- a volume of n planes, from 6 to 32. The numbers behind its count may be any, NaN among them.
+-- a volume of n planes. The numbers behind its count may be any, NaN among them.
 pub record VolumeRecord (v : List Float) (n : ℕ) : Type 0 where
   pub counted : PlaneCount (at v 0) n
   pub numbers : length v ≡ volumeLength n

@@ -64,12 +64,12 @@ distanceLimit = 16_777_216
 
 -- ---- how many there may be
 
--- the planes of a view: "the original six", and at most
+-- the planes of a view: "the original six", and "Make 14 the upper limit"
 abbrev pub fewestPlanes : ℕ
 fewestPlanes = 6
 
 abbrev pub mostPlanes : ℕ
-mostPlanes = 32
+mostPlanes = 14
 
 -- the boxes of a group: "1 to 256 box records"
 abbrev pub mostBoxes : ℕ

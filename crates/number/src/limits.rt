@@ -33,7 +33,7 @@ pub const GRID_LIMIT: u64 = 65536;
 // The original planes of a view, and the most that one has.
 pub const FEWEST_PLANES: u32 = 6;
 
-pub const MOST_PLANES: u32 = 32;
+pub const MOST_PLANES: u32 = 14;
 
 // The most boxes of a group.
 pub const MOST_BOXES: usize = 256;

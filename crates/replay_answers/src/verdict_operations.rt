@@ -8,7 +8,7 @@ use verdict::frustum_calls;
 use verdict::plane_calls;
 use verdict::ray_calls;
 
-// The length of a volume that is given with so many other numbers: any up to that of one plane too many.
+// The length of a volume that is given with so many other numbers: any up to that of 33 planes, which are more than there may be.
 pub(crate) fn volume(given: usize, others: usize) -> u8 {
     if given < others {
         return 0;

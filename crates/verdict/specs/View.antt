@@ -1,5 +1,5 @@
--- A view: planes that face into it, and lines of sight along its corners. Its record, which the papers call the volume, holds "from 6 to 32 planes: a whole
--- count first, the planes with the original six in front, then the four rays". What says where its numbers stand is here. Definitions only.
+-- A view: planes that face into it, and lines of sight along its corners. Its record, which the papers call the volume, holds its planes within their limits:
+-- "a whole count first, the planes with the original six in front, then the four rays". What says where its numbers stand is here. Definitions only.
 use Prim.Native.Nat.{ℕ, zero, suc, _+_, _*_}
 use mathlib.Core.Bool.{Bool, _&&_}
 use mathlib.Core.List.{List, [], _∷_}
@@ -45,11 +45,11 @@ volumeLength n = rayStart n rayCount
 abbrev pub wholePart : Float → ℕ
 wholePart x = toUnsigned 64 x
 
--- the number x is whole, and "from 6 to 32"
+-- the number x is whole, and within the limits of planes
 abbrev pub isCount : Float → Bool
 isCount x = le (rounded fewestPlanes 1) x && le x (rounded mostPlanes 1) && eq x (rounded (wholePart x) 1)
 
--- how many planes x says there are: "12 for a count not whole or outside 6 to 32"
+-- how many planes x says there are: "12 for a count not whole or outside" them
 unfoldable pub planeCountOf : Float → Outcome ℕ
 planeCountOf x = unless (isCount x) (refused 12) (result (wholePart x))
 
@@ -58,7 +58,7 @@ abbrev pub andThen : {A B : Type 0} → Outcome A → (A → Outcome B) → Outc
 andThen (refused k) f = refused k
 andThen (result x) f = f x
 
--- How many planes a record holds: "1 for a volume below 49 numbers [..], then 12 for a count not whole or outside 6 to 32, then 1 for another volume length".
+-- How many planes a record holds: "1 for a volume below 49 numbers [..], then 12 for a count not whole or outside" its limits, "then 1 for another volume length".
 unfoldable pub planesHeld : List Float → Outcome ℕ
 unfolding planeCountOf
 planesHeld s =

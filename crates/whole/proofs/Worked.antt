@@ -61,7 +61,7 @@ unfolding wholeSegmentCall every segmentInView leaves planesFrom
 least = refl
 
 -- 12 comes before 7, and before 1 for another length
-count-first : wholeSegmentCall (pos 33 ∷ planes) (three (pos 65537) (pos 5) (pos 5)) (three (pos 5) (pos 5) (pos 5)) ≡ refused 12
+count-first : wholeSegmentCall (pos 15 ∷ planes) (three (pos 65537) (pos 5) (pos 5)) (three (pos 5) (pos 5) (pos 5)) ≡ refused 12
 unfolding wholeSegmentCall every segmentInView leaves planesFrom
 count-first = refl
 
