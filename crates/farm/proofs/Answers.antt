@@ -14,57 +14,64 @@ use Rattle.verdict.specs.View.{isCount}
 use Rattle.farm.specs.Directory.{sectionCount, boxSections, wellFormed}
 use Rattle.number.specs.Slots.{unused}
 use Rattle.number.proofs.Filled.{length-slots}
-use Rattle.farm.specs.FarmFile.{volumeThere, countNumber, sized, allFlagged, inView, checked, farmFile, slotCount, slotOf, slots, Listing, listing, listed, farmFileCall}
+use Rattle.farm.specs.FarmFile.{volumeThere, countNumber, sized, allFlagged, numbersFinite, inView, checked, farmFile, slotCount, slotOf, slots, Listing, listing, listed, farmFileCall}
 use Rattle.farm.specs.Lines.{linesFrom, refusedLine, linesOf, isYes}
 use Rattle.farm.proofs.SectionsLeft.{as-many}
 use Rattle.farm.proofs.Placed.{at-most}
 
 -- ---- the checks of a file, one after the other
 
-abbrev chain : Bool → Bool → Bool → Bool → Bool → Bool → List Bool → Outcome (List Bool)
-chain f w v c s g vs =
-    unless f (refused 1) (unless w (refused 9) (unless v (refused 10) (unless c (refused 12) (unless s (refused 10) (unless g (refused 3) (result vs))))))
+abbrev chain : Bool → Bool → Bool → Bool → Bool → Bool → Bool → List Bool → Outcome (List Bool)
+chain f w v c s g n vs =
+    unless f (refused 1) (unless w (refused 9) (unless v (refused 10) (unless c (refused 12) (unless s (refused 10) (unless g (refused 3) (unless n (refused 13) (result vs)))))))
 
-all-passed : (f w v c s g : Bool) (ws vs : List Bool) → chain f w v c s g ws ≡ result vs → (w ≡ true) × (ws ≡ vs)
-all-passed true true true true true true ws vs e = (refl, cc)
-all-passed true true true true true false ws vs e = (refl, cc)
-all-passed true true true true false g ws vs e = (refl, cc)
-all-passed true true true false s g ws vs e = (refl, cc)
-all-passed true true false c s g ws vs e = (refl, cc)
-all-passed true false v c s g ws vs e = (cc, cc)
-all-passed false true v c s g ws vs e = (refl, cc)
-all-passed false false v c s g ws vs e = (cc, cc)
+-- what is answered passed every check, of the directory and of the numbers among them
+all-passed : (f w v c s g n : Bool) (ws vs : List Bool) → chain f w v c s g n ws ≡ result vs → (w ≡ true) × (n ≡ true) × (ws ≡ vs)
+all-passed true true true true true true true ws vs e = (refl, refl, cc)
+all-passed true true true true true true false ws vs e = (refl, cc, cc)
+all-passed true true true true true false n ws vs e = (refl, cc, cc)
+all-passed true true true true false g n ws vs e = (refl, cc, cc)
+all-passed true true true false s g n ws vs e = (refl, cc, cc)
+all-passed true true false c s g n ws vs e = (refl, cc, cc)
+all-passed true false v c s g n ws vs e = (cc, cc, cc)
+all-passed false w v c s g n ws vs e = (cc, cc, cc)
 
-small : (f w v c s g : Bool) (ws : List Bool) (k : ℕ) → chain f w v c s g ws ≡ refused k → k < 100
-small true true true true true true ws k e = let z : _≡_ {A = ℕ} 0 1 = cc in omega arith
-small true true true true true false ws k e = let z : 3 ≡ k = cc in omega arith
-small true true true true false g ws k e = let z : 10 ≡ k = cc in omega arith
-small true true true false s g ws k e = let z : 12 ≡ k = cc in omega arith
-small true true false c s g ws k e = let z : 10 ≡ k = cc in omega arith
-small true false v c s g ws k e = let z : 9 ≡ k = cc in omega arith
-small false w v c s g ws k e = let z : 1 ≡ k = cc in omega arith
+small : (f w v c s g n : Bool) (ws : List Bool) (k : ℕ) → chain f w v c s g n ws ≡ refused k → k < 100
+small true true true true true true true ws k e = let z : _≡_ {A = ℕ} 0 1 = cc in omega arith
+small true true true true true true false ws k e = let z : 13 ≡ k = cc in omega arith
+small true true true true true false n ws k e = let z : 3 ≡ k = cc in omega arith
+small true true true true false g n ws k e = let z : 10 ≡ k = cc in omega arith
+small true true true false s g n ws k e = let z : 12 ≡ k = cc in omega arith
+small true true false c s g n ws k e = let z : 10 ≡ k = cc in omega arith
+small true false v c s g n ws k e = let z : 9 ≡ k = cc in omega arith
+small false w v c s g n ws k e = let z : 1 ≡ k = cc in omega arith
 
 module _ (b : List ℕ) where
   abbrev found : List Bool
   found = map (inView b) (boxSections b)
 
-  is : chain (leb (length b) largestFile) (wellFormed b) (volumeThere b) (isCount (countNumber b)) (sized b) (allFlagged b) found ≡ farmFile b
+  is : chain (leb (length b) largestFile) (wellFormed b) (volumeThere b) (isCount (countNumber b)) (sized b) (allFlagged b) (numbersFinite b) found ≡ farmFile b
   unfolding farmFile checked
   is = refl
 
-  answered : (vs : List Bool) → farmFile b ≡ result vs → (wellFormed b ≡ true) × (found ≡ vs)
-  answered vs e = all-passed (leb (length b) largestFile) (wellFormed b) (volumeThere b) (isCount (countNumber b)) (sized b) (allFlagged b) found vs (is ∙ e)
+  answered : (vs : List Bool) → farmFile b ≡ result vs → (wellFormed b ≡ true) × (numbersFinite b ≡ true) × (found ≡ vs)
+  answered vs e =
+      all-passed (leb (length b) largestFile) (wellFormed b) (volumeThere b) (isCount (countNumber b)) (sized b) (allFlagged b) (numbersFinite b) found vs (is ∙ e)
 
   pub well-formed : (vs : List Bool) → farmFile b ≡ result vs → wellFormed b ≡ true
   well-formed vs e = answered vs e .0
 
+  pub finite-numbers : (vs : List Bool) → farmFile b ≡ result vs → numbersFinite b ≡ true
+  finite-numbers vs e = answered vs e .1
+
   few : (vs : List Bool) → farmFile b ≡ result vs → length vs ≤ slotCount
   few vs e =
       let n = length-map (boxSections b) (inView b) ∙ as-many b 1 (sectionCount b - 1) in
-      omega (arith, sym (ap length (answered vs e .1)) ∙ n, at-most b (well-formed vs e))
+      omega (arith, sym (ap length (answered vs e .2)) ∙ n, at-most b (well-formed vs e))
 
   small-number : (k : ℕ) → farmFile b ≡ refused k → k < 100
-  small-number k e = small (leb (length b) largestFile) (wellFormed b) (volumeThere b) (isCount (countNumber b)) (sized b) (allFlagged b) found k (is ∙ e)
+  small-number k e =
+      small (leb (length b) largestFile) (wellFormed b) (volumeThere b) (isCount (countNumber b)) (sized b) (allFlagged b) (numbersFinite b) found k (is ∙ e)
 
   -- ---- what a call with room answers
 

@@ -1,13 +1,13 @@
 -- The answer to a farm file is made of its directory and its sections alone: files that agree there have the same words, so the same
--- sections and the same numbers in them. Assumes nothing.
-use mathlib.Core.Path.{_≡_, refl, sym, ap, _∙_}
+-- sections and the same numbers in them. And of a file that has one the sections lie apart and hold finite numbers, as its checks say. Assumes nothing.
+use mathlib.Core.Path.{_≡_, refl, sym, ap, subst, _∙_}
 use mathlib.Core.Bool.{Bool, true, false, cond, _&&_}
 use mathlib.Core.List.{List, _∷_, map}
 use Prim.Native.Nat.{ℕ, zero, suc, _+_, _-_, _*_, _/_, _<_, _≤_}
 use native.Mathlib.Omega.{arith}
 use native.Mathlib.Nat.{mul-div-le}
 use borrow.Author.Tests.{leb-true}
-use lib.Dec.{eqb, leb}
+use lib.Dec.{T, eqb, leb}
 use lib.ListN.{length, getD, take, drop, length-take, length-drop}
 use lib.Seq.{ext-getD, getD-take, getD-drop}
 use lib.Ieee.{Float, binary64, ofBits}
@@ -15,16 +15,17 @@ use Rattle.number.specs.Limits.{boxLength, fewestPlanes, largestFile, fewestSec
 use Rattle.number.specs.Every.{every}
 use Rattle.number.specs.Answer.{Outcome, refused, result, unless}
 use Rattle.number.specs.Bytes.{littleEndian, wordAt, numberAt, numbersAt}
+use Rattle.number.specs.Slice.{allFinite}
 use Rattle.verdict.specs.BBox.{boxOf}
 use Rattle.verdict.specs.BBoxCalls.{flagged}
 use Rattle.verdict.specs.View.{volumeLength, wholePart, isCount, planesOf}
 use Rattle.verdict.specs.Frustum.{boxInView}
 use Rattle.farm.specs.declared.directory.Section.{Section}
 use Rattle.farm.specs.Directory.{sectionCount, sectionAt, sectionsFrom, volumeSection, boxSections, directoryEnd, numbersOf, inOrder, wellFormed}
-use Rattle.farm.specs.FarmFile.{volumeThere, countNumber, planeCount, sized, allFlagged, inView, checked, farmFile}
-use Rattle.farm.specs.Reading.{AgreeOutsideGaps, GapsUnread, AnsweredApart}
-use Rattle.farm.proofs.Placed.{at-least, placed, apart}
-use Rattle.farm.proofs.Answers.{well-formed}
+use Rattle.farm.specs.FarmFile.{volumeThere, countNumber, planeCount, sized, allFlagged, numbersFinite, inView, checked, farmFile}
+use Rattle.farm.specs.Reading.{AgreeOutsideGaps, GapsUnread, AnsweredApart, AnsweredFinite}
+use Rattle.farm.proofs.Placed.{at-least, placed, apart, section-finite}
+use Rattle.farm.proofs.Answers.{well-formed, finite-numbers}
 
 -- ---- words and numbers of two strings of one length
 
@@ -126,6 +127,12 @@ module _ (b c : List ℕ) (a : AgreeOutsideGaps b c) where
         same-every b count (λ s. flagged (numbersOf b s)) (λ s. flagged (numbersOf c s)) (λ k h. ap flagged (numbers-same k h)) 1 (count - 1) (omega (arith, two))
         ∙ ap (every (λ s. flagged (numbersOf c s))) same-boxes
 
+    same-finite : numbersFinite b ≡ numbersFinite c
+    unfolding numbersFinite
+    same-finite =
+        same-every b count (λ s. allFinite (numbersOf b s)) (λ s. allFinite (numbersOf c s)) (λ k h. ap allFinite (numbers-same k h)) 0 count (omega arith)
+        ∙ ap (every (λ s. allFinite (numbersOf c s))) (same-sections 0 count (omega arith) ∙ ap (sectionsFrom c 0) same-count)
+
     volume-same : numbersOf b (volumeSection b) ≡ numbersOf c (volumeSection c)
     volume-same = numbers-same 0 (omega (arith, two)) ∙ ap (numbersOf c) same-volume
 
@@ -153,16 +160,14 @@ module _ (b c : List ℕ) (a : AgreeOutsideGaps b c) where
       same-views : map (inView b) (boxSections b) ≡ map (inView c) (boxSections c)
       same-views = same-map b count (inView b) (inView c) view-same 1 (count - 1) (omega (arith, two)) ∙ ap (map (inView c)) same-boxes
 
-  abbrev behind : Bool → Bool → Bool → List Bool → Outcome (List Bool)
-  behind n s g vs = unless n (refused 12) (unless s (refused 10) (unless g (refused 3) (result vs)))
+  -- the checks behind the first, and the answer
+  abbrev behind : Bool → Bool → Bool → Bool → List Bool → Outcome (List Bool)
+  behind n s g f vs = unless n (refused 12) (unless s (refused 10) (unless g (refused 3) (unless f (refused 13) (result vs))))
 
   same-behind : wellFormed b ≡ true → volumeThere b ≡ true
-      → behind (isCount (countNumber b)) (sized b) (allFlagged b) (map (inView b) (boxSections b)) ≡ behind (isCount (countNumber c)) (sized c) (allFlagged c) (map (inView c) (boxSections c))
-  same-behind w v =
-      ap (λ (x : Float). behind (isCount x) (sized b) (allFlagged b) (map (inView b) (boxSections b))) (same-number w v)
-      ∙ ap (λ (s : Bool). behind (isCount (countNumber c)) s (allFlagged b) (map (inView b) (boxSections b))) (same-sizes w v)
-      ∙ ap (λ (g : Bool). behind (isCount (countNumber c)) (sized c) g (map (inView b) (boxSections b))) (same-flags w)
-      ∙ ap (behind (isCount (countNumber c)) (sized c) (allFlagged c)) (same-views w v)
+      → behind (isCount (countNumber b)) (sized b) (allFlagged b) (numbersFinite b) (map (inView b) (boxSections b))
+      ≡ behind (isCount (countNumber c)) (sized c) (allFlagged c) (numbersFinite c) (map (inView c) (boxSections c))
+  same-behind w v = λ t. behind (isCount (same-number w v t)) (same-sizes w v t) (same-flags w t) (same-finite w t) (same-views w v t)
 
   same-checked : (f : Bool) → wellFormed b ≡ f → (v : Bool) → (f ≡ true → volumeThere b ≡ v) → checked b ≡ checked c
   unfolding checked
@@ -181,3 +186,6 @@ gaps-unread b c a = same-answer b c a
 
 pub answered-apart : AnsweredApart
 answered-apart b vs e = let w = well-formed b vs e in record { inside = placed b w; apart = apart b w }
+
+pub answered-finite : AnsweredFinite
+answered-finite b vs e i h = subst T (sym (section-finite b (finite-numbers b vs e) i h)) tt

@@ -2,19 +2,21 @@
 use mathlib.Core.Path.{_≡_, sym, ap, subst, _∙_}
 use mathlib.Core.Bool.{Bool, true, _&&_}
 use mathlib.Core.List.{List}
-use Prim.Native.Nat.{ℕ, zero, suc, _+_, _-_, _*_, _<_, _≤_}
+use Prim.Native.Nat.{ℕ, zero, suc, _+_, _-_, _*_, _/_, _<_, _≤_}
+use native.Mathlib.Nat.{mul-div-le}
 use native.Mathlib.Omega.{arith}
 use borrow.Author.Tests.{leb-true, eqb-true}
 use lib.Dec.{leb, eqb}
 use lib.ListN.{length}
 use Rattle.number.specs.Limits.{boxLength, fewestSections, mostSections}
 use Rattle.number.specs.Every.{every}
+use Rattle.number.specs.Slice.{allFinite}
 use Rattle.number.proofs.Tests.{both-hold}
 use Rattle.verdict.specs.View.{volumeLength}
 use Rattle.verdict.specs.BBoxCalls.{flagged}
 use Rattle.farm.specs.declared.directory.Section.{Section}
 use Rattle.farm.specs.Directory.{sectionCount, sectionAt, sectionsFrom, volumeSection, directoryEnd, endOf, numbersOf, inOrder, wellFormed}
-use Rattle.farm.specs.FarmFile.{planeCount, sized, allFlagged}
+use Rattle.farm.specs.FarmFile.{planeCount, sized, allFlagged, numbersFinite}
 
 -- ---- a test that all sections pass
 
@@ -110,7 +112,13 @@ module _ (b : List ℕ) (w : wellFormed b ≡ true) where
       subst (λ (m : ℕ). endOf (sectionAt b m) ≤ sectionAt b j .offset) y
       (subst (λ (m : ℕ). endOf (sectionAt b (0 + i)) ≤ sectionAt b m .offset) z (apart-from b (length b) _ 0 (sectionCount b) i j ordered g h))
 
--- ---- the sizes and the flags
+  -- the numbers of a section are in the file
+  pub section-inside : (i : ℕ) → i < sectionCount b → (s : Section) → s ≡ sectionAt b i → s .offset + 8 * (s .size / 8) ≤ length b
+  section-inside i h s q =
+      let e = subst (λ (t : Section). endOf t ≤ length b) (sym q) (placed i h .1) in
+      omega (arith, e, mul-div-le (s .size) 8)
+
+-- ---- the sizes, the flags and the numbers
 
 module _ (b : List ℕ) (s : sized b ≡ true) where
   pub volume-sized : volumeSection b .size ≡ 8 * volumeLength (planeCount b)
@@ -124,3 +132,9 @@ module _ (b : List ℕ) (s : sized b ≡ true) where
 pub box-flagged : (b : List ℕ) → allFlagged b ≡ true → (i : ℕ) → 0 < i → i < sectionCount b → flagged (numbersOf b (sectionAt b i)) ≡ true
 unfolding allFlagged
 box-flagged b f i p h = each-box b (λ s. flagged (numbersOf b s)) (sectionCount b) i f p h
+
+pub section-finite : (b : List ℕ) → numbersFinite b ≡ true → (i : ℕ) → i < sectionCount b → allFinite (numbersOf b (sectionAt b i)) ≡ true
+unfolding numbersFinite
+section-finite b f i h =
+    let z : 0 + i ≡ i = omega arith in
+    ap (λ (m : ℕ). allFinite (numbersOf b (sectionAt b m))) (sym z) ∙ each-from b (λ s. allFinite (numbersOf b s)) 0 (sectionCount b) i f h

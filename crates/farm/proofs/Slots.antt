@@ -2,7 +2,7 @@
 use mathlib.Core.Path.{_≡_, refl, sym, ap, subst, _∙_}
 use mathlib.Core.Bool.{Bool}
 use mathlib.Core.List.{List, [], _∷_, _++_, map, map-append}
-use Prim.Native.Nat.{ℕ, _+_, _-_, _*_, _/_, _<_, _≤_}
+use Prim.Native.Nat.{ℕ, _+_, _*_, _/_, _<_, _≤_}
 use native.Mathlib.Omega.{arith}
 use lib.ListN.{length, length-map, replicate, set}
 use lib.Ieee.{Float}
@@ -23,7 +23,7 @@ use Rattle.farm.specs.Directory.{sectionCount, sectionAt, sectionsFrom, 
 use Rattle.farm.specs.FarmFile.{countNumber, planeCount, inView, slotCount, slotOf, slotFor, slots}
 use Rattle.farm.specs.Steps.{Ready}
 use Rattle.farm.proofs.SectionsLeft.{as-many as as-many-sections, last-section}
-use Rattle.farm.proofs.Placed.{at-least, placed, volume-sized, box-sized, box-flagged}
+use Rattle.farm.proofs.Placed.{at-least, placed, volume-sized, box-sized, box-flagged, section-finite}
 
 pub none-answered : (n : ℕ) → n ≡ slotCount → replicate n unused ≡ slots []
 none-answered n e = none-filled slotCount n e
@@ -108,4 +108,6 @@ module _ (b : List ℕ) (r : Ready b) where
         let n = numbersOf b (sectionAt b (i + 1)) in
         let size : length n ≡ boxLength = ap length (sym numbers-are) ∙ as-many b (sec .offset) boxLength in
         p ∙ ap (λ (t : List Float). slotFor (intersectsBoxCall t (numbersAt b (sec .offset) boxLength))) e ∙ ap (λ (t : List Float). slotFor (intersectsBoxCall volume t)) numbers-are
-        ∙ ap slotFor (box-answered volume (planeCount b) held n size (box-flagged b (r .flags) (i + 1) (omega arith) h))
+        ∙ ap slotFor
+        (box-answered volume (planeCount b) held (section-finite b (r .finite) 0 (omega arith)) n size (box-flagged b (r .flags) (i + 1) (omega arith) h)
+        (section-finite b (r .finite) (i + 1) h))

@@ -35,6 +35,10 @@ volumeSection b = sectionAt b 0
 abbrev pub boxSections : List ℕ → List Section
 boxSections b = sectionsFrom b 1 (sectionCount b - 1)
 
+-- all of them
+abbrev pub sections : List ℕ → List Section
+sections b = sectionsFrom b 0 (sectionCount b)
+
 -- ---- a section: "Offsets count bytes from the start, lengths count bytes"
 
 -- just behind its last byte

@@ -9,13 +9,14 @@ use Rattle.number.specs.Limits.{boxLength, fewestPlanes, largestFile, mostSecti
 use Rattle.number.specs.Every.{every}
 use Rattle.number.specs.Bytes.{numberAt}
 use Rattle.number.specs.Slots.{unused, slotsOf}
+use Rattle.number.specs.Slice.{allFinite}
 use Rattle.number.specs.Answer.{Outcome, refused, result, unless}
 use Rattle.verdict.specs.BBox.{boxOf}
 use Rattle.verdict.specs.BBoxCalls.{flagged}
 use Rattle.verdict.specs.View.{volumeLength, wholePart, isCount, planesOf}
 use Rattle.verdict.specs.Frustum.{boxInView}
 use Rattle.farm.specs.declared.directory.Section.{Section}
-use Rattle.farm.specs.Directory.{wellFormed, volumeSection, boxSections, numbersOf}
+use Rattle.farm.specs.Directory.{wellFormed, volumeSection, boxSections, sections, numbersOf}
 
 -- ---- the volume: "a volume section below 49 numbers is 10, then 12 is tested, then 10 for every other length"
 
@@ -42,20 +43,26 @@ unfoldable pub allFlagged : List ℕ → Bool
 unfolding every
 allFlagged b = every (λ s. flagged (numbersOf b s)) (boxSections b)
 
+-- no number of the volume or of a box is a NaN or an infinity
+unfoldable pub numbersFinite : List ℕ → Bool
+unfolding every
+numbersFinite b = every (λ s. allFinite (numbersOf b s)) (sections b)
+
 -- whether the box of a section is in view: the verdict of `intersects_bbox`
 abbrev pub inView : List ℕ → Section → Bool
 inView b s = boxInView (planesOf (numbersOf b (volumeSection b)) (planeCount b)) (boxOf (numbersOf b s))
 
 -- ---- the checks
 
--- a file that is not too large, by its checks in their order: each is made of the whole file before the next
+-- a file that is not too large, by its checks in their order: each is made of the whole file before the next. 13: "In a farm file it comes last."
 unfoldable pub checked : List ℕ → Outcome (List Bool)
-unfolding sized allFlagged
+unfolding sized allFlagged numbersFinite
 checked b =
     unless (wellFormed b) (refused 9)
     (unless (volumeThere b) (refused 10)
     (unless (isCount (countNumber b)) (refused 12)
-    (unless (sized b) (refused 10) (unless (allFlagged b) (refused 3) (result (map (inView b) (boxSections b)))))))
+    (unless (sized b) (refused 10)
+    (unless (allFlagged b) (refused 3) (unless (numbersFinite b) (refused 13) (result (map (inView b) (boxSections b))))))))
 
 -- any file: "1 if the file exceeds 65,536 bytes"
 unfoldable pub farmFile : List ℕ → Outcome (List Bool)
@@ -91,7 +98,7 @@ abbrev pub listed : Outcome (List Bool) → List ℕ → Listing
 listed (refused k) out = listing (refused k) out
 listed (result vs) out = listing (result (length vs)) (slots vs)
 
--- "1, 2, then 9", 10, 12, 10 and 3: 2 where there are not as many slots
+-- "1, 2, then 9", 10, 12, 10, 3 and 13: 2 where there are not as many slots
 unfoldable pub farmFileCall : List ℕ → List ℕ → Listing
 unfolding checked
 farmFileCall b out =

@@ -1,11 +1,14 @@
--- What is claimed of the bytes of a farm file: where its sections lie, and which bytes its answer depends on. Statements only.
+-- What is claimed of the bytes of a farm file: where its sections lie, that their numbers are finite, and which bytes its answer depends on. Statements only.
+-- `T b` says that the test b holds.
 use Prim.Native.Nat.{ℕ, _<_, _≤_}
 use mathlib.Core.Path.{_≡_}
 use mathlib.Core.Bool.{Bool}
 use mathlib.Core.List.{List}
+use lib.Dec.{T}
 use lib.ListN.{length, getD}
 use Rattle.number.specs.Answer.{result}
-use Rattle.farm.specs.Directory.{sectionCount, sectionAt, directoryEnd, endOf}
+use Rattle.number.specs.Slice.{allFinite}
+use Rattle.farm.specs.Directory.{sectionCount, sectionAt, directoryEnd, endOf, numbersOf}
 use Rattle.farm.specs.FarmFile.{farmFile}
 
 -- Every section lies behind the directory and in the file, and no two overlap.
@@ -16,6 +19,10 @@ pub record SectionsApart (b : List ℕ) : Type 0 where
 -- of every file that has an answer
 abbrev pub AnsweredApart : Type 0
 AnsweredApart = (b : List ℕ) (vs : List Bool) → farmFile b ≡ result vs → SectionsApart b
+
+-- "The farm file does the same before printing": what has an answer has finite numbers alone, in the volume and in every box
+abbrev pub AnsweredFinite : Type 0
+AnsweredFinite = (b : List ℕ) (vs : List Bool) → farmFile b ≡ result vs → (i : ℕ) → i < sectionCount b → T (allFinite (numbersOf b (sectionAt b i)))
 
 -- "Gaps are permitted and unread." A gap is what is neither of the directory nor of a section; these files agree elsewhere.
 pub record AgreeOutsideGaps (b c : List ℕ) : Type 0 where

@@ -6,7 +6,7 @@ use mathlib.Core.List.{List}
 use lib.Ieee.{Float}
 use Rattle.verdict.specs.View.{isCount, wholePart}
 use Rattle.farm.specs.Directory.{wellFormed}
-use Rattle.farm.specs.FarmFile.{countNumber, sized, allFlagged}
+use Rattle.farm.specs.FarmFile.{countNumber, sized, allFlagged, numbersFinite}
 
 -- how many planes a number says there are; 0 where it is no count
 abbrev pub countOrZero : Float → ℕ
@@ -18,3 +18,4 @@ pub record Ready (b : List ℕ) : Type 0 where
   pub count : isCount (countNumber b) ≡ true
   pub sizes : sized b ≡ true
   pub flags : allFlagged b ≡ true
+  pub finite : numbersFinite b ≡ true

@@ -3,6 +3,7 @@ ghost use mathlib.Core.Path.{_≡_};
 ghost use Rattle.number.specs.Answer.{countedOf};
 ghost use Rattle.farm.specs.FarmFile.{listing, farmFileCall};
 use crate::directory::is_well_formed;
+use crate::sections::are_finite;
 use crate::sections::are_flagged;
 use crate::sections::are_sized;
 use crate::sections::file_slots;
@@ -42,6 +43,9 @@ pub fn farm_file(file: &[u8], out: &mut [u32]) -> Counted
     }
     if !are_flagged(file) {
         return Counted::Refused(Refusal::Kind);
+    }
+    if !are_finite(file) {
+        return Counted::Refused(Refusal::MissingNumber);
     }
     file_slots(file, planes, out);
     Counted::Count(word_32(file, 0) - 1)

@@ -1,4 +1,4 @@
-// The sections of a well-formed farm file: their sizes, the flags of its boxes, and whether each box is in view.
+// The sections of a well-formed farm file: their sizes and numbers, the flags of its boxes, and whether each box is in view.
 ghost use mathlib.Core.Path.{_≡_};
 ghost use mathlib.Core.Bool.{true};
 ghost use mathlib.Core.List.{map};
@@ -7,10 +7,11 @@ ghost use lib.ListN.{length};
 ghost use Rattle.number.specs.Limits.{boxLength, mostPlanes};
 ghost use Rattle.number.specs.Answer.{verdictOf};
 ghost use Rattle.number.specs.Bytes.{numbersAt};
+ghost use Rattle.number.specs.Slice.{allFinite};
 ghost use Rattle.verdict.specs.FrustumCalls.{intersectsBoxCall};
 ghost use Rattle.verdict.specs.View.{volumeLength};
 ghost use Rattle.farm.specs.Directory.{wellFormed, volumeSection, boxSections, numbersOf};
-ghost use Rattle.farm.specs.FarmFile.{volumeThere, countNumber, planeCount, sized, allFlagged, inView, slotCount, slotFor, slots};
+ghost use Rattle.farm.specs.FarmFile.{volumeThere, countNumber, planeCount, sized, allFlagged, numbersFinite, inView, slotCount, slotFor, slots};
 ghost use Rattle.farm.specs.Steps.{Ready, countOrZero};
 use crate::directory::section_at;
 use number::answer::Verdict;
@@ -20,6 +21,7 @@ use number::bytes::word_32;
 use number::limits::BOX_LENGTH;
 use number::limits::FEWEST_PLANES;
 use number::limits::FLAG_PLACE;
+use number::order::is_finite;
 use number::slots::UNUSED;
 use number::slots::clear;
 use verdict::bbox::is_flag;
@@ -86,6 +88,38 @@ pub(crate) fn are_flagged(file: &[u8]) -> bool
     while i < count {
         let start = section_at(file, i).offset as usize;
         if !is_flag(number_at(file, start + FLAG_START)) {
+            return false;
+        }
+        i += 1;
+    }
+    true
+}
+
+// Whether so many numbers from a place on are finite.
+fn are_finite_from(file: &[u8], start: usize, count: usize) -> bool
+    requires { ⌜ start + 8 * count ≤ length (now file) ⌝ }
+    ensures { λ r. ⌜ r ≡ allFinite (numbersAt (now (file .entry)) start count) ⌝ }
+{
+    let mut all = true;
+    let mut i = count;
+    while 0 < i {
+        i -= 1;
+        all = is_finite(number_at(file, start + NUMBER_SIZE * i)) & all;
+    }
+    all
+}
+
+// Whether every number of every section is finite.
+pub(crate) fn are_finite(file: &[u8]) -> bool
+    requires { ⌜ wellFormed (now file) ≡ true ⌝ }
+    ensures { λ r. ⌜ r ≡ numbersFinite (now (file .entry)) ⌝ }
+{
+    let count = word_32(file, 0) as usize;
+    let mut i: usize = 0;
+    while i < count {
+        let section = section_at(file, i);
+        let size = section.size as usize;
+        if !are_finite_from(file, section.offset as usize, size / NUMBER_SIZE) {
             return false;
         }
         i += 1;

@@ -1,4 +1,5 @@
--- What the operations answer on records of the right lengths: the lengths and the flag pass their tests, and the result is that of the values. Assumes nothing.
+-- What the operations answer on records of the right lengths: the lengths, the flag and the numbers pass their tests, and the result is that of the values. Assumes
+-- nothing.
 use mathlib.Core.Path.{_≡_, sym}
 use mathlib.Core.Bool.{true}
 use mathlib.Core.List.{List}
@@ -9,7 +10,8 @@ use lib.ListN.{length}
 use lib.Ieee.{Float}
 use Rattle.number.specs.Limits.{boxLength, matrixLength}
 use Rattle.number.specs.Answer.{result, write, leaving}
-use Rattle.number.specs.Slice.{at}
+use Rattle.number.specs.Every.{every}
+use Rattle.number.specs.Slice.{at, allFinite}
 use Rattle.matrix.specs.Vec.{vec3Of, coordinates}
 use Rattle.matrix.specs.Matrix.{matrixOf}
 use Rattle.matrix.specs.Range.{bounds}
@@ -38,20 +40,22 @@ module _ (v : List Float) {n : ℕ} (W : VolumeRecord v n) where
       let h = W .counted .fewest in
       all-held v (omega (arith, W .numbers)) n (sym (count-exact (at v 0) n .1 (W .counted))) (W .numbers)
 
-  pub point-answer : (p : List Float) → length p ≡ 3 → intersectsPointCall v p ≡ result (pointInView planes (vec3Of p))
-  point-answer = point-answered v n passed
+  module _ (f : allFinite v ≡ true) where
+    pub point-answer : (p : List Float) → length p ≡ 3 → allFinite p ≡ true → intersectsPointCall v p ≡ result (pointInView planes (vec3Of p))
+    point-answer = point-answered v n passed f
 
-  pub segment-answer : (p q : List Float) → length p ≡ 3 → length q ≡ 3 → intersectsSegmentCall v p q ≡ result (segmentInView planes (vec3Of p) (vec3Of q))
-  segment-answer = segment-answered v n passed
+    pub segment-answer : (p q : List Float) → length p ≡ 3 → length q ≡ 3 → allFinite p ≡ true → allFinite q ≡ true
+        → intersectsSegmentCall v p q ≡ result (segmentInView planes (vec3Of p) (vec3Of q))
+    segment-answer = segment-answered v n passed f
 
-  pub box-answer : (b : List Float) → length b ≡ boxLength → flagged b ≡ true → intersectsBoxCall v b ≡ result (boxInView planes (boxOf b))
-  box-answer = box-answered v n passed
+    pub box-answer : (b : List Float) → length b ≡ boxLength → flagged b ≡ true → allFinite b ≡ true → intersectsBoxCall v b ≡ result (boxInView planes (boxOf b))
+    box-answer = box-answered v n passed f
 
 -- by a camera's matrix
-pub clip-answer : (b m : List Float) → length b ≡ boxLength → length m ≡ matrixLength → flagged b ≡ true
+pub clip-answer : (b m : List Float) → length b ≡ boxLength → length m ≡ matrixLength → flagged b ≡ true → allFinite b ≡ true → allFinite m ≡ true
     → viewVolumeCall b m ≡ result (boxInViewVolume (boxOf b) (matrixOf m))
-unfolding viewVolumeCall haveLengths verdictAfter
-clip-answer b m h i f = rw (eq-eqb _ _ h, eq-eqb _ _ i, f)
+unfolding viewVolumeCall haveLengths verdictAfter every
+clip-answer b m h i f j k = rw (eq-eqb _ _ h, eq-eqb _ _ i, f, j, k)
 
 -- ---- operations that write
 

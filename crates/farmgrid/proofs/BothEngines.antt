@@ -39,6 +39,7 @@ use Rattle.farmgrid.specs.WholeNumbers.{FloatsOf, SameEnd, SameView, One
 use Rattle.farmgrid.proofs.Singles.{three}
 use Rattle.farmgrid.proofs.Exact.{eq-whole}
 use Rattle.farmgrid.proofs.Counts.{count-exact}
+use Rattle.farmgrid.proofs.FiniteNumbers.{end-finite, same-view-finite}
 use Rattle.farmgrid.proofs.Distance.{same-test}
 use Rattle.farmgrid.proofs.Segment.{segment-is}
 use Rattle.farmgrid.proofs.Verdicts.{segment-exact}
@@ -114,12 +115,12 @@ module _ (view p0 p1 : List ℤ) (v q0 q1 : List Float) (S : SameView view v) (E
 
   first-other : (length p0 ≡ pointLength → ⊥) → Goal
   first-other h =
-      sym (other-first view p0 p1 h) ∙ wrong-length _ _ _ _ (ends ∙ ap (λ (t : Bool). t && has pointLength p1) (ne-eqb _ _ h)) ∙ segment-call v q0 q1
+      sym (other-first view p0 p1 h) ∙ wrong-length _ _ _ _ _ (ends ∙ ap (λ (t : Bool). t && has pointLength p1) (ne-eqb _ _ h)) ∙ segment-call v q0 q1
 
   module _ (h : length p0 ≡ pointLength) where
     second-other : (length p1 ≡ pointLength → ⊥) → Goal
     second-other i =
-        sym (other-second view p0 p1 h i) ∙ wrong-length _ _ _ _ (ends ∙ (λ t. eq-eqb _ _ h t && ne-eqb _ _ i t)) ∙ segment-call v q0 q1
+        sym (other-second view p0 p1 h i) ∙ wrong-length _ _ _ _ _ (ends ∙ (λ t. eq-eqb _ _ h t && ne-eqb _ _ i t)) ∙ segment-call v q0 q1
 
     module _ (i : length p1 ≡ pointLength) where
       ends-pass : haveLengths ((3, q0) ∷ (3, q1) ∷ []) ≡ true
@@ -127,7 +128,7 @@ module _ (view p0 p1 : List ℤ) (v q0 q1 : List Float) (S : SameView view v) (E
 
       -- what the volume is refused with
       refused-both : (k : ℕ) → refused k ≡ wholeSegmentCall view p0 p1 → refused k ≡ planesHeld v → Goal
-      refused-both k e f = sym e ∙ not-held _ _ _ _ ends-pass k f ∙ segment-call v q0 q1
+      refused-both k e f = sym e ∙ not-held _ _ _ _ _ ends-pass k f ∙ segment-call v q0 q1
 
       short : length view < viewLength fewestPlanes → Goal
       short l = refused-both 1 (too-short view p0 p1 h i l) (short-volume v (omega (arith, S .numbers)))
@@ -177,7 +178,8 @@ module _ (view p0 p1 : List ℤ) (v q0 q1 : List Float) (S : SameView view v) (E
                   let b : IsPoint (vec3Of q1) B = record { numbers = end-whole (E1 .floats) i; grid = grid-point B (g .1) } in
                   let same = same-test (wholeInView Ps A B) (segmentInView (planesOf v n) (vec3Of q0) (vec3Of q1)) (Iff·trans (whole-segment-is A B Ps) (Iff·symm (segment-is hs a b))) in
                   sym (answered view p0 p1 h i l n refl m o x e _ refl) ∙ ap result same
-                  ∙ sym (segment-answered v n (all-held v long n count (omega (arith, x, S .numbers))) q0 q1 (E0 .numbers ∙ h) (E1 .numbers ∙ i))
+                  ∙ sym (segment-answered v n (all-held v long n count (omega (arith, x, S .numbers))) (same-view-finite S) q0 q1 (E0 .numbers ∙ h) (E1 .numbers ∙ i)
+                  (end-finite E0) (end-finite E1))
 
               decided : Goal
               decided = by-test (λ t. Goal) (onGrid Ps A B) (λ t. on (is-true (onGrid Ps A B) t)) (λ t. off (is-false (onGrid Ps A B) t))

@@ -8,7 +8,8 @@ use lib.Dec.{T, leb, leb→le, lit<}
 use lib.IntN.{ℤ, pos, negsuc, natAbs}
 use lib.Ieee.{Float, toUnsigned, add, mul, neg, lt, eq, isNan, round, sum, units, odd, size, span, climb}
 use Rattle.number.specs.Limits.{gridLimit}
-use Rattle.number.specs.Every.{everyBelow, someBelow}
+use Rattle.number.specs.Every.{every, everyBelow, someBelow}
+use Rattle.number.specs.Slice.{allFinite}
 use Rattle.matrix.specs.Matrix.{matrixOf, entry, product}
 use Rattle.matrix.specs.Vec.{axis}
 use Rattle.verdict.specs.BBox.{boxOf}
@@ -104,7 +105,7 @@ outside X R C =
     omega arith
 
 pub found-outside : FoundOutside
-unfolding viewVolumeCall haveLengths verdictAfter boxInViewVolume everyBelow someBelow product toUnsigned add mul neg lt eq isNan round sum units odd size span climb trailingZeros
+unfolding viewVolumeCall haveLengths verdictAfter every allFinite boxInViewVolume everyBelow someBelow product toUnsigned add mul neg lt eq isNan round sum units odd size span climb trailingZeros
 found-outside = record {
   box = record { numbers = refl; flag = tt; range = range-whole; matrix = matrix-whole; box = affine };
   camera = record { numbers = refl; matrix = camera-whole; entries = sized viewProjectionLimit identityℤ tt };

@@ -33,6 +33,7 @@ use Rattle.farmgrid.proofs.Exact.{neg-whole, lt-whole}
 use Rattle.farmgrid.proofs.Singles.{three, four}
 use Rattle.farmgrid.proofs.WholeSums.{one-whole, whole-vec4}
 use Rattle.farmgrid.proofs.WholeMatrices.{product-computed, product-sized, homogeneous-computed, homogeneous-sized}
+use Rattle.farmgrid.proofs.FiniteNumbers.{box-finite, matrix-finite}
 use Rattle.farmgrid.proofs.Answers.{clip-answer}
 use Rattle.farmgrid.proofs.Below.{every-below, some-below}
 use Rattle.farmgrid.proofs.ClipSides.{Inside, clip-is, each-side}
@@ -150,11 +151,12 @@ pub nothing-rounded : NothingRounded
 nothing-rounded b m B g P Q = unrounded (boxOf b) (matrixOf m) B g (P .range) (P .matrix) (P .box) (Q .matrix) (Q .entries)
 
 pub clip-exact : ClipExact
-clip-exact b m B g P Q = record {
-  verdict = boxInViewVolume (boxOf b) (matrixOf m);
-  answered = clip-answer b m (P .numbers) (Q .numbers) (is-true (flagged b) (P .flag));
-  exact = verdict-is (nothing-rounded b m B g P Q);
-}
+clip-exact b m B g P Q =
+    let f = is-true (flagged b) (P .flag) in record {
+      verdict = boxInViewVolume (boxOf b) (matrixOf m);
+      answered = clip-answer b m (P .numbers) (Q .numbers) f (box-finite b (P .numbers) f (P .range) (P .matrix)) (matrix-finite m (Q .numbers) (Q .matrix));
+      exact = verdict-is (nothing-rounded b m B g P Q);
+    }
 
 pub never-lost : NeverLost
 never-lost b m B g X P Q R C =

@@ -27,6 +27,7 @@ use Rattle.farmgrid.specs.Grouping.{EachRecord, GroupOut}
 use Rattle.farmgrid.proofs.EveryPlane.{every-of}
 use Rattle.farmgrid.proofs.BoxReach.{Reaches, endOf, reaches-along}
 use Rattle.farmgrid.proofs.BoxPlane.{Wide, grid-wide, box-reaches}
+use Rattle.farmgrid.proofs.FiniteNumbers.{box-finite, box-record-finite, view-finite}
 use Rattle.farmgrid.proofs.Answers.{box-answer}
 use Rattle.farmgrid.proofs.CombinedBoxes.{extentOf}
 use Rattle.farmgrid.proofs.PlacedCorners.{listed, box-among, listed-least, listed-greatest}
@@ -85,7 +86,7 @@ module _ (B : WholeBox) (Bs : List WholeBox) {last : List Float} (S : Stands las
         let brings : T (verdict s) → T (verdict last) =
         λ t. box-reaches wide (W .planes) .1 (every-of (reaches-as-well (S .holds .placement) (h .box .grid .placement) least greatest) (W .planes)
         (box-reaches (grid-wide (h .box)) (W .planes) .0 t)) in
-        box-answer v (W .volume) s (h .numbers) (is-true (flagged s) (h .flag)) ∙ ap result (no-as-well (verdict s) (verdict last) brings e)
+        box-answer v (W .volume) (view-finite W) s (h .numbers) (is-true (flagged s) (h .flag)) (box-record-finite h) ∙ ap result (no-as-well (verdict s) (verdict last) brings e)
 
   members-out : verdict last ≡ false → {ss : List (List Float)} {Cs : List WholeBox} → ((j : ℕ) (z : ℤ) → Coordinate j z Cs → Coordinate j z (B ∷ Bs))
       → BoxRecords ss Cs → EachRecord (λ s. intersectsBoxCall v s ≡ result false) ss
@@ -97,6 +98,7 @@ group-out ss B Bs last v Ps h l W =
     let S = last-placed h l in
     record {
       verdict = boxInView (planesOf v (W .count)) (boxOf last);
-      answered = box-answer v (W .volume) last (S .numbers) (S .flag);
+      -- what the calls leave is a box of whole numbers, and so a finite one
+      answered = box-answer v (W .volume) (view-finite W) last (S .numbers) (S .flag) (box-finite last (S .numbers) (S .flag) (S .holds .range-is) (S .holds .matrix-is));
       members = λ e. members-out B Bs S W e (λ j z c. c) h;
     }

@@ -33,6 +33,7 @@ pub mod BoxReach
 pub mod BoxPlane
 pub mod BoxInView
 -- the verdicts on records, and with a plane more
+pub mod FiniteNumbers
 pub mod Counts
 pub mod Answers
 pub mod Verdicts

@@ -11,6 +11,7 @@ use lib.Ieee.{Float}
 use lib.Ieee.Bits.{is-true}
 use lib.Ieee.Fits.{and-i, and-l, and-r}
 use Rattle.number.specs.Every.{every}
+use Rattle.number.specs.Slice.{allFinite}
 use Rattle.matrix.specs.Vec.{vec3Of}
 use Rattle.matrix.specs.Range.{isEmpty}
 use Rattle.matrix.specs.declared.vec.Vec3d.{Vec3d}
@@ -24,6 +25,7 @@ use Rattle.verdict.specs.Frustum.{pointInView, segmentInView, boxInView, intoSp
 use Rattle.whole.specs.Plane.{WholePlane}
 use Rattle.farmgrid.specs.FarmGrid.{SegmentPlane, AxisPlane, WholeBox, IsPoint, IsBox, ArePlanes, exactly, between, Satisfies, Every}
 use Rattle.farmgrid.specs.Screens.{PlaneMore, PointScreened, SegmentScreened, BoxScreened, EachPlaneScreens}
+use Rattle.farmgrid.proofs.FiniteNumbers.{point-finite, box-record-finite, view-finite}
 use Rattle.farmgrid.proofs.Answers.{point-answer, segment-answer, box-answer}
 use Rattle.farmgrid.proofs.Segment.{point-is, segment-is}
 use Rattle.farmgrid.proofs.BoxReach.{Reaches}
@@ -78,8 +80,8 @@ pub point-screened : PointScreened
 point-screened v v' p Ps P Qs A S R = record {
   was = pointInView (planesOf v (S .before .count)) (vec3Of p);
   is = pointInView (planesOf v' (S .after .count)) (vec3Of p);
-  answered-before = point-answer v (S .before .volume) p (R .numbers);
-  answered-after = point-answer v' (S .after .volume) p (R .numbers);
+  answered-before = point-answer v (S .before .volume) (view-finite (S .before)) p (R .numbers) (point-finite R);
+  answered-after = point-answer v' (S .after .volume) (view-finite (S .after)) p (R .numbers) (point-finite R);
   kept = point-without Ps P Qs (S .before .planes) (S .after .planes) (R .point);
 }
 
@@ -87,8 +89,8 @@ pub segment-screened : SegmentScreened
 segment-screened v v' p q Ps P Qs A B S R R' = record {
   was = segmentInView (planesOf v (S .before .count)) (vec3Of p) (vec3Of q);
   is = segmentInView (planesOf v' (S .after .count)) (vec3Of p) (vec3Of q);
-  answered-before = segment-answer v (S .before .volume) p q (R .numbers) (R' .numbers);
-  answered-after = segment-answer v' (S .after .volume) p q (R .numbers) (R' .numbers);
+  answered-before = segment-answer v (S .before .volume) (view-finite (S .before)) p q (R .numbers) (R' .numbers) (point-finite R) (point-finite R');
+  answered-after = segment-answer v' (S .after .volume) (view-finite (S .after)) p q (R .numbers) (R' .numbers) (point-finite R) (point-finite R');
   kept = segment-without Ps P Qs (S .before .planes) (S .after .planes) (R .point) (R' .point);
 }
 
@@ -97,12 +99,12 @@ box-screened v v' b Ps P Qs B S R =
     let f = is-true (flagged b) (R .flag) in record {
       was = boxInView (planesOf v (S .before .count)) (boxOf b);
       is = boxInView (planesOf v' (S .after .count)) (boxOf b);
-      answered-before = box-answer v (S .before .volume) b (R .numbers) f;
-      answered-after = box-answer v' (S .after .volume) b (R .numbers) f;
+      answered-before = box-answer v (S .before .volume) (view-finite (S .before)) b (R .numbers) f (box-record-finite R);
+      answered-after = box-answer v' (S .after .volume) (view-finite (S .after)) b (R .numbers) f (box-record-finite R);
       kept = box-without Ps P Qs (S .before .planes) (S .after .planes) (R .box);
     }
 
--- a verdict that keeps its yes without a plane, of volumes of any numbers
+-- a verdict that keeps its yes without a plane, of volumes of any finite numbers
 module _ (verdict : List Plane → Bool) (kept : (ps : List Plane) (p : Plane) (qs : List Plane) → T (verdict (ps ++ p ∷ qs)) → T (verdict (ps ++ qs)))
     {v v' : List Float} (M : PlaneMore v v') where
   any-kept : T (verdict (planesOf v' (suc (M .count)))) → T (verdict (planesOf v (M .count)))
@@ -112,18 +114,18 @@ module _ (verdict : List Plane → Bool) (kept : (ps : List Plane) (p : Plane) (
 
 pub each-plane-screens : EachPlaneScreens
 each-plane-screens = record {
-  point = λ v v' x M h. record {
+  point = λ v v' x M h g. let f = is-true (allFinite x) g in record {
     was = pointInView (planesOf v (M .count)) (vec3Of x);
     is = pointInView (planesOf v' (suc (M .count))) (vec3Of x);
-    answered-before = point-answer v (M .before) x h;
-    answered-after = point-answer v' (M .after) x h;
+    answered-before = point-answer v (M .before) (is-true (allFinite v) (M .finite)) x h f;
+    answered-after = point-answer v' (M .after) (is-true (allFinite v') (M .finite-more)) x h f;
     kept = any-kept (λ os. pointInView os (vec3Of x)) (λ ps p qs. point-kept ps p qs (vec3Of x)) M;
   };
-  box = λ v v' b M h f. let g = is-true (flagged b) f in record {
+  box = λ v v' b M h f g. let flag = is-true (flagged b) f in let numbers = is-true (allFinite b) g in record {
     was = boxInView (planesOf v (M .count)) (boxOf b);
     is = boxInView (planesOf v' (suc (M .count))) (boxOf b);
-    answered-before = box-answer v (M .before) b h g;
-    answered-after = box-answer v' (M .after) b h g;
+    answered-before = box-answer v (M .before) (is-true (allFinite v) (M .finite)) b h flag numbers;
+    answered-after = box-answer v' (M .after) (is-true (allFinite v') (M .finite-more)) b h flag numbers;
     kept = any-kept (λ os. boxInView os (boxOf b)) (λ ps p qs. box-kept ps p qs (boxOf b)) M;
   };
 }

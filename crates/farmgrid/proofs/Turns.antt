@@ -25,6 +25,7 @@ use Rattle.farmgrid.specs.Records.{PointRecord, BoxRecord, TurnRecord, A
 use Rattle.farmgrid.specs.Turns.{TurnedPoint, TurnedBox, TurnKeepsVerdicts}
 use Rattle.farmgrid.proofs.QuarterTurns.{widen, widen-placement}
 use Rattle.farmgrid.proofs.WholePlacements.{point-whole, product-whole}
+use Rattle.farmgrid.proofs.FiniteNumbers.{point-finite, box-record-finite, view-finite}
 use Rattle.farmgrid.proofs.Answers.{point-answer, segment-answer, box-answer, point-moves, box-moves}
 use Rattle.group.proofs.Written.{flag-read}
 use Rattle.farmgrid.proofs.Turned.{point-turned, segment-turned}
@@ -85,17 +86,21 @@ turn-keeps m f M = record {
   places = places M;
   point = λ {v} {v'} {p} W P out room.
       let P' = moves M P out room .left in
-      same (point-answer v' (W .after .volume) (pointMoved m p out .out) (P' .numbers)) (point-answer v (W .before .volume) p (P .before .numbers))
+      same (point-answer v' (W .after .volume) (view-finite (W .after)) (pointMoved m p out .out) (P' .numbers) (point-finite P'))
+      (point-answer v (W .before .volume) (view-finite (W .before)) p (P .before .numbers) (point-finite (P .before)))
       (point-turned (M .turn .placement .turn) (W .before .planes) (W .after .planes) (P .before .point) (P' .point));
   segment = λ {v} {v'} {p0 = p} {p1 = q} W P Q out out' room room'.
       let P' = moves M P out room .left in
       let Q' = moves M Q out' room' .left in
-      same (segment-answer v' (W .after .volume) (pointMoved m p out .out) (pointMoved m q out' .out) (P' .numbers) (Q' .numbers))
-      (segment-answer v (W .before .volume) p q (P .before .numbers) (Q .before .numbers))
+      same
+      (segment-answer v' (W .after .volume) (view-finite (W .after)) (pointMoved m p out .out) (pointMoved m q out' .out) (P' .numbers) (Q' .numbers)
+      (point-finite P') (point-finite Q'))
+      (segment-answer v (W .before .volume) (view-finite (W .before)) p q (P .before .numbers) (Q .before .numbers) (point-finite (P .before)) (point-finite (Q .before)))
       (segment-turned (M .turn .placement .turn) (W .before .planes) (W .after .planes) (P .before .point) (P' .point) (Q .before .point) (Q' .point));
   box = λ {v} {v'} {b} W B out room.
       let B' = places M B out room .left in
-      same (box-answer v' (W .after .volume) (boxMoved b m out .out) (B' .numbers) (is-true (flagged (boxMoved b m out .out)) (B' .flag)))
-      (box-answer v (W .before .volume) b (B .before .numbers) (is-true (flagged b) (B .before .flag)))
+      same
+      (box-answer v' (W .after .volume) (view-finite (W .after)) (boxMoved b m out .out) (B' .numbers) (is-true (flagged (boxMoved b m out .out)) (B' .flag)) (box-record-finite B'))
+      (box-answer v (W .before .volume) (view-finite (W .before)) b (B .before .numbers) (is-true (flagged b) (B .before .flag)) (box-record-finite (B .before)))
       (box-turned (M .turn .placement) (W .before .planes) (W .after .planes) (B .before .box) (B' .box));
 }

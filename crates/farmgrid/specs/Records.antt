@@ -6,17 +6,17 @@ use mathlib.Core.Bool.{Bool}
 use mathlib.Core.List.{List, [], _∷_}
 use Prim.Native.Nat.{ℕ, _≤_}
 use lib.Dec.{T}
-use lib.ListN.{length}
+use lib.ListN.{length, drop}
 use lib.IntN.{ℤ, pos}
 use lib.Ieee.{Float}
 use Rattle.number.specs.Limits.{boxLength, fewestPlanes, mostPlanes}
 use Rattle.number.specs.Answer.{Reply, Outcome, result}
-use Rattle.number.specs.Slice.{at}
+use Rattle.number.specs.Slice.{at, allFinite}
 use Rattle.matrix.specs.Vec.{vec3Of}
 use Rattle.matrix.specs.Matrix.{matrixOf}
 use Rattle.verdict.specs.BBox.{boxOf}
 use Rattle.verdict.specs.BBoxCalls.{flagged}
-use Rattle.verdict.specs.View.{volumeLength, planeCountOf, planesOf}
+use Rattle.verdict.specs.View.{rayStart, volumeLength, planeCountOf, planesOf}
 use Rattle.whole.specs.Plane.{WholePlane}
 use Rattle.farmgrid.specs.Whole.{Whole}
 use Rattle.farmgrid.specs.Placement.{Placed}
@@ -44,11 +44,12 @@ pub record VolumeRecord (v : List Float) (n : ℕ) : Type 0 where
   pub counted : PlaneCount (at v 0) n
   pub numbers : length v ≡ volumeLength n
 
--- a view by the planes Ps, which are of a kind, `SegmentPlane` or `AxisPlane`. Its four rays may be any numbers.
+-- a view by the planes Ps, which are of a kind, `SegmentPlane` or `AxisPlane`. Its four rays, behind the planes, may be any finite numbers.
 pub record ViewRecord (Kind : WholePlane → Type 0) (v : List Float) (Ps : List WholePlane) : Type 0 where
   pub count : ℕ
   pub volume : VolumeRecord v count
   pub planes : ArePlanes Kind (planesOf v count) Ps
+  pub rays : T (allFinite (drop (rayStart count 0) v))
 
 -- a grid box B: "Grid boxes have a flag of 0 or 1"
 pub record BoxRecord (b : List Float) (B : WholeBox) : Type 0 where

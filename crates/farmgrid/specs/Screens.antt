@@ -9,6 +9,7 @@ use lib.ListN.{length}
 use lib.IntN.{ℤ}
 use lib.Ieee.{Float}
 use Rattle.number.specs.Answer.{Outcome, result}
+use Rattle.number.specs.Slice.{allFinite}
 use Rattle.verdict.specs.declared.plane.Plane.{Plane}
 use Rattle.verdict.specs.BBoxCalls.{flagged}
 use Rattle.verdict.specs.View.{planesOf}
@@ -24,11 +25,13 @@ pub record Screened (Kind : WholePlane → Type 0) (v v' : List Float) (Ps : Lis
   pub before : ViewRecord Kind v (Ps ++ Qs)
   pub after : ViewRecord Kind v' (Ps ++ P ∷ Qs)
 
--- volumes of any numbers, NaN among them: v, and v' that has the plane p besides, at any place of the list
+-- volumes of any finite numbers: v, and v' that has the plane p besides, at any place of the list
 pub record PlaneMore (v v' : List Float) : Type 0 where
   pub count : ℕ
   pub before : VolumeRecord v count
+  pub finite : T (allFinite v)
   pub after : VolumeRecord v' (suc count)
+  pub finite-more : T (allFinite v')
   pub ps : List Plane
   pub p : Plane
   pub qs : List Plane
@@ -61,8 +64,9 @@ BoxScreened =
     (v v' b : List Float) (Ps : List WholePlane) (P : WholePlane) (Qs : List WholePlane) (B : WholeBox)
     → Screened AxisPlane v v' Ps P Qs → BoxRecord b B → NeverToYes (intersectsBoxCall v b) (intersectsBoxCall v' b)
 
--- Of points and boxes this holds for planes, points and boxes of all numbers, since each plane is asked by itself: of every point and every box that passes its
--- own checks.
+-- Of points and boxes this holds for planes, points and boxes of all finite numbers, since each plane is asked by itself: of every point and every box that
+-- passes its own checks.
 pub record EachPlaneScreens : Type 0 where
-  pub point : (v v' x : List Float) → PlaneMore v v' → length x ≡ 3 → NeverToYes (intersectsPointCall v x) (intersectsPointCall v' x)
-  pub box : (v v' b : List Float) → PlaneMore v v' → length b ≡ 23 → T (flagged b) → NeverToYes (intersectsBoxCall v b) (intersectsBoxCall v' b)
+  pub point : (v v' x : List Float) → PlaneMore v v' → length x ≡ 3 → T (allFinite x) → NeverToYes (intersectsPointCall v x) (intersectsPointCall v' x)
+  pub box : (v v' b : List Float) → PlaneMore v v' → length b ≡ 23 → T (flagged b) → T (allFinite b)
+      → NeverToYes (intersectsBoxCall v b) (intersectsBoxCall v' b)

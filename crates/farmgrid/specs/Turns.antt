@@ -18,7 +18,8 @@ use Rattle.farmgrid.specs.Records.{PointRecord, ViewRecord, BoxRecord, T
 
 -- ---- what is turned
 
--- a view of planes of a kind, and a view of the moved planes, which are of that kind again
+-- A view of planes of a kind, and a view of the moved planes, which are of that kind again. "A turn leaves the rays as they are": the second view has those of
+-- the first, or any other finite ones.
 pub record TurnedView (Kind : WholePlane → Type 0) (f : ℕ → ℕ → ℤ) (v v' : List Float) (Ps : List WholePlane) : Type 0 where
   pub before : ViewRecord Kind v Ps
   pub after : ViewRecord Kind v' (map (movedPlane f) Ps)

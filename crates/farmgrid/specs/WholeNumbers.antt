@@ -3,12 +3,13 @@
 use mathlib.Core.Path.{_≡_}
 use mathlib.Core.List.{List}
 use Prim.Native.Nat.{ℕ, _+_, _*_, _≤_, _<_}
-use lib.ListN.{length}
+use lib.Dec.{T}
+use lib.ListN.{length, drop}
 use lib.IntN.{ℤ, pos}
 use lib.Ieee.{Float}
 use Rattle.number.specs.Limits.{pointLength, rayLength, fewestPlanes, mostPlanes}
 use Rattle.number.specs.Answer.{refused}
-use Rattle.number.specs.Slice.{at}
+use Rattle.number.specs.Slice.{at, allFinite}
 use Rattle.whole.specs.SegmentCall.{numberAt, pointOf, planesOf, viewLength, wholeSegmentCall}
 use Rattle.verdict.specs.View.{rayCount}
 use Rattle.verdict.specs.FrustumCalls.{intersectsSegmentCall}
@@ -51,13 +52,13 @@ pub record SameEnd (p : List ℤ) (q : List Float) : Type 0 where
   pub numbers : length q ≡ length p
   pub floats : FloatsOf p q
 
--- a view, as floats, with four rays of any numbers behind it
+-- a view, as floats, with "any four finite rays" behind it
 pub record SameView (view : List ℤ) (v : List Float) : Type 0 where
   pub numbers : length v ≡ length view + rayCount * rayLength
   pub floats : FloatsOf view v
+  pub rays : T (allFinite (drop (length view) v))
 
--- "Convert the accepted numbers to floats without loss, add any four finite rays, and both engines must give one verdict." Of records of the farm grid, whatever
--- their rays are:
+-- "Convert the accepted numbers to floats without loss, add any four finite rays, and both engines must give one verdict." Of records of the farm grid:
 abbrev pub OneVerdict : Type 0
 OneVerdict =
     (view p0 p1 : List ℤ) (n : ℕ) (v q0 q1 : List Float)

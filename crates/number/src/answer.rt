@@ -16,6 +16,7 @@ pub enum Refusal {
     SectionLength,
     GroupSize,
     PlaneCount,
+    MissingNumber,
 }
 
 pub enum Written {
@@ -65,6 +66,7 @@ impl Refusal {
             Refusal::SectionLength => 10,
             Refusal::GroupSize => 11,
             Refusal::PlaneCount => 12,
+            Refusal::MissingNumber => 13,
         }
     }
 }

@@ -1,7 +1,6 @@
 // Numbers read from a lent slice, and a result stored into one.
 ghost use mathlib.Core.Path.{_≡_};
 ghost use Rattle.number.specs.Slice.{at, allFinite, storedAt, stored};
-use crate::order::is_finite;
 
 // The number at a place; past the end a NaN.
 pub fn at(s: &[f64], i: usize) -> f64
@@ -13,15 +12,17 @@ pub fn at(s: &[f64], i: usize) -> f64
     0.0 / 0.0
 }
 
-// Whether none is a NaN or an infinity. It looks at all, so that no branch waits for a number.
+// Whether none is a NaN or an infinity: zero times either is a NaN, and times any other number a zero. It looks at all, so that no branch waits for a number and
+// the compiler takes several at a time.
 pub fn all_finite(s: &[f64]) -> bool
     ensures { λ r. ⌜ r ≡ allFinite (now (s .entry)) ⌝ }
 {
     let mut all = true;
-    let mut i = s.len();
-    while 0 < i {
-        i -= 1;
-        all = is_finite(s[i]) & all;
+    let mut place: usize = 0;
+    while place < s.len() {
+        let x = s[place];
+        all = all & (x * 0.0 == 0.0);
+        place += 1;
     }
     all
 }

@@ -1,8 +1,10 @@
--- Worked numbers of paper 01 ("Odd inputs", "Slips a rater would miss") on planes and rays, computed from the definitions. Assumes nothing.
+-- Worked numbers of paper 01 ("Odd inputs", "Slips a rater would miss") on planes and rays, and finite ones that overflow, computed from the definitions. Assumes
+-- nothing.
 use mathlib.Core.Path.{_≡_, refl, ap}
-use mathlib.Core.Bool.{true, false}
-use Prim.Native.Nat.{_^_}
+use mathlib.Core.Bool.{Bool, true, false, cond, _||_}
+use Prim.Native.Nat.{_*_, _^_}
 use lib.Count.{trailingZeros}
+use lib.Dec.{eqb, leb}
 use lib.IntN.{pos, negsuc}
 use lib.Ieee.{Float, nan, fin, add, sub, mul, div, neg, lt, le, eq, isNan, round, sum, units, odd, size, span, climb}
 use Rattle.number.specs.Arithmetic.{absOf, maxOf}
@@ -11,12 +13,18 @@ use Rattle.number.specs.Format.{narrowOf}
 use Rattle.number.specs.Root.{sqrtOf}
 use Rattle.matrix.specs.Constants.{rounded, positiveZero, half, one, minLength}
 use Rattle.matrix.specs.Vec.{lengthOf, normalized}
+use Rattle.matrix.specs.Matrix.{matrix}
+use Rattle.matrix.specs.Inverse.{adjugate, determinant, inverseAbove}
 use Rattle.matrix.specs.declared.vec.Vec3d.{Vec3d}
+use Rattle.matrix.specs.declared.matrix.Mat4d.{Mat4d}
+use Rattle.matrix.specs.declared.range.Range3d.{Range3d}
 use Rattle.verdict.specs.declared.plane.Plane.{Plane}
 use Rattle.verdict.specs.declared.ray.Ray.{Ray}
 use Rattle.verdict.specs.declared.ray.PlaneHit.the-variants.{At, Miss}
 use Rattle.verdict.specs.declared.ray.TriangleHit.the-variants.{Hit}
 use Rattle.verdict.specs.Plane.{plane, offset, fromEquation, distanceTo, onPositiveSide}
+use Rattle.verdict.specs.BBox.{box, isDegenerate}
+use Rattle.verdict.specs.Frustum.{crossing}
 use Rattle.verdict.specs.Ray.{ray, planeHit, faced, settled, betaOf, alphaOf, gammaOf, weighed, triangleHit, triangleHitNumbers}
 
 abbrev o : Float
@@ -36,6 +44,42 @@ no-normal w = refl
 no-side : (p : Plane) (x : Vec3d) → distanceTo p x ≡ nan → onPositiveSide p x ≡ false
 unfolding le round units odd size span climb trailingZeros
 no-side p x h = ap (le positiveZero) h
+
+-- ---- a NaN of finite numbers, by overflow
+
+abbrev two : Float
+two = rounded 2 1
+
+-- a distance: 2e308 less 2e308
+endless-distance : distanceTo (plane (vec two (neg two) o) o) (vec (rounded (10 ^ 308) 1) (rounded (10 ^ 308) 1) o) ≡ nan
+unfolding add sub mul neg round sum units odd size span climb trailingZeros
+endless-distance = refl
+
+-- a crossing: the ends are 2.5e308 apart along x, and 0 times that is the NaN
+abbrev farWest : Vec3d
+farWest = vec (neg (rounded (12 * 10 ^ 307) 1)) (rounded 20 1) (rounded 5 1)
+
+abbrev farEast : Vec3d
+farEast = vec (rounded (13 * 10 ^ 307) 1) (neg (rounded (10 ^ 6) 1)) (rounded 5 1)
+
+endless-segment : crossing (plane (vec o one o) o) farWest farEast ≡ nan
+unfolding add sub mul div neg round sum units odd size span climb trailingZeros
+endless-segment = refl
+
+-- a determinant: 1e400 less 1e400; the box is degenerate
+abbrev far : Float
+far = rounded (10 ^ 200) 1
+
+abbrev flat : Mat4d
+flat = matrix (λ i j. cond (leb 2 i || leb 2 j) (cond (eqb i j) one o) far)
+
+endless-determinant : determinant flat ≡ nan
+unfolding determinant adjugate add sub mul neg round sum units odd size span climb trailingZeros
+endless-determinant = refl
+
+endless-matrix : (r : Range3d) (f : Bool) → isDegenerate (box r flat f) ≡ true
+unfolding inverseAbove determinant adjugate absOf add sub mul div neg lt round sum units odd size span climb trailingZeros
+endless-matrix r f = refl
 
 -- ---- a plane, met from above
 

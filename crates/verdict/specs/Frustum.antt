@@ -1,5 +1,6 @@
 -- The verdicts of a view, in the operation order of frustum.rs. A view is a list of planes that face into it, six of them in gf and any
--- number here; and for triangles a list of rays, its lines of sight. Definitions only.
+-- number here; and for triangles a list of rays, its lines of sight. They are asked of finite numbers alone, so that a NaN is met only where an operation
+-- overflows: the distance of the plane 2,-2,0;0 from the point 1e308,1e308,0 is one, and is not on the positive side. Definitions only.
 use Prim.Native.Nat.{ℕ}
 use mathlib.Core.Bool.{Bool, true, false, not, cond, _&&_, _||_, Bool·beq}
 use mathlib.Core.List.{List, [], _∷_}
@@ -37,7 +38,8 @@ pointInView ps x = every (λ p. onPositiveSide p x) ps
 abbrev pub hasEnd : Vec3d → Vec3d → Plane → Bool
 hasEnd a b p = onPositiveSide p a || onPositiveSide p b
 
--- where the segment meets the plane, as a number that is 0 at a and 1 at b
+-- where the segment meets the plane, as a number that is 0 at a and 1 at b. It is a NaN, which `minOf` and `maxOf` pass over, of the plane 0,1,0;0 and the segment
+-- from -1.2e308,20,5 to 1.3e308,-1e6,5, whose ends are too far apart along x.
 abbrev pub crossing : Plane → Vec3d → Vec3d → Float
 crossing p a b = neg (distanceTo p a) ⊘ dot (p .normal) (difference b a)
 
@@ -68,7 +70,8 @@ segmentInView ps a b = every (hasEnd a b) ps && (pointInView ps a || pointInView
 -- ---- a box: every plane, brought into the box's own space, is reached by its range
 
 -- The box's matrix is the inverse of the one into its space, and its transpose carries a plane there.
--- "The plane tests take a degenerate box as if its matrix were the identity."
+-- "The plane tests take a degenerate box as if its matrix were the identity." One with the rows 1e200,1e200,0,0 twice, then 0,0,1,0 and 0,0,0,1 is, since its
+-- determinant overflows to a NaN.
 abbrev pub intoSpaceOf : BBox3d → Mat4d
 intoSpaceOf b = cond (isDegenerate b) identity (transpose (b .matrix))
 

@@ -1,10 +1,12 @@
 -- What each verdict over lent slices answers, in the numbers of the papers. They write nothing. Definitions only.
 use mathlib.Core.Bool.{Bool, true, _&&_}
-use mathlib.Core.List.{List, [], _∷_}
+use mathlib.Core.List.{List, [], _∷_, map}
 use Prim.Native.Nat.{ℕ}
 use lib.Ieee.{Float}
 use Rattle.number.specs.Limits.{pointLength, matrixLength, boxLength}
+use Rattle.number.specs.Every.{every}
 use Rattle.number.specs.Answer.{Outcome, refused, result, unless, has}
+use Rattle.number.specs.Slice.{allFinite}
 use Rattle.matrix.specs.Vec.{vec3Of}
 use Rattle.matrix.specs.Matrix.{matrixOf}
 use Rattle.verdict.specs.declared.plane.Plane.{Plane}
@@ -21,15 +23,21 @@ unfoldable pub haveLengths : List (ℕ × List Float) → Bool
 haveLengths [] = true
 haveLengths ((n, s) ∷ inputs) = has n s && haveLengths inputs
 
--- Of the five verdicts: lengths, what is held, "then 3 where a box occurs", and then the verdict by what is held.
-unfoldable pub verdictAfter : {A : Type 0} → Bool → Outcome A → Bool → (A → Bool) → Outcome Bool
-verdictAfter lengths held flag verdict = unless lengths (refused 1) (andThen held (λ x. unless flag (refused 3) (result (verdict x))))
+-- the records of the inputs
+abbrev pub recordsOf : List (ℕ × List Float) → List (List Float)
+recordsOf inputs = map (λ input. input .1) inputs
+
+-- Of the five verdicts: lengths, what is held, "then 3 where a box occurs", then "any record holding a NaN or infinity", of all that are lent, "13 after
+-- lengths, plane count and flags", and then the verdict by what is held.
+unfoldable pub verdictAfter : {A : Type 0} → Bool → Outcome A → Bool → List (List Float) → (A → Bool) → Outcome Bool
+verdictAfter lengths held flag lent verdict =
+    unless lengths (refused 1) (andThen held (λ x. unless flag (refused 3) (unless (every allFinite lent) (refused 13) (result (verdict x)))))
 
 -- Of those by a volume: "1 for a volume below 49 numbers or any other input of the wrong length", the volume's later checks, "then document 01's later
 -- checks", and then the verdict by its planes and rays.
 unfoldable pub verdictBy : List Float → List (ℕ × List Float) → Bool → (List Plane → List Ray → Bool) → Outcome Bool
 unfolding haveLengths verdictAfter
-verdictBy v others flag verdict = verdictAfter (haveLengths others) (planesHeld v) flag (λ n. verdict (planesOf v n) (raysOf v n))
+verdictBy v others flag verdict = verdictAfter (haveLengths others) (planesHeld v) flag (v ∷ recordsOf others) (λ n. verdict (planesOf v n) (raysOf v n))
 
 -- ---- the verdicts: "Point, segment and box verdicts use all planes."
 
@@ -52,4 +60,6 @@ intersectsBoxCall v b = verdictBy v ((boxLength, b) ∷ []) (flagged b) (λ ps r
 
 unfoldable pub viewVolumeCall : List Float → List Float → Outcome Bool
 unfolding haveLengths verdictAfter
-viewVolumeCall b m = verdictAfter (haveLengths ((boxLength, b) ∷ (matrixLength, m) ∷ [])) (result (boxOf b)) (flagged b) (λ x. boxInViewVolume x (matrixOf m))
+viewVolumeCall b m =
+    let inputs : List (ℕ × List Float) = (boxLength, b) ∷ (matrixLength, m) ∷ [] in
+    verdictAfter (haveLengths inputs) (result (boxOf b)) (flagged b) (recordsOf inputs) (λ x. boxInViewVolume x (matrixOf m))

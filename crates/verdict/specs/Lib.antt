@@ -8,6 +8,7 @@ pub mod BBoxCalls
 pub mod View
 pub mod Frustum
 pub mod FrustumCalls
+pub mod FiniteNumbers
 pub mod Marked
 pub mod WorkedScreens
 pub mod Steps

@@ -13,6 +13,7 @@ use matrix::matrix::Mat4d;
 use matrix::vec::Vec3d;
 use number::answer::Refusal;
 use number::answer::Verdict;
+use number::slice::all_finite;
 use number::slice::at;
 
 // Whether a point is in the view.
@@ -23,11 +24,12 @@ pub fn intersects_point(volume: &[f64], p: &[f64]) -> Verdict
         return Verdict::Refused(Refusal::InputLength);
     }
     match planes_held(volume) {
-        Held::Planes(count) => Verdict::of(frustum::intersects_point(
-            volume,
-            count,
-            Vec3d::load(p),
-        )),
+        Held::Planes(count) => {
+            if !(all_finite(volume) & all_finite(p)) {
+                return Verdict::Refused(Refusal::MissingNumber);
+            }
+            Verdict::of(frustum::intersects_point(volume, count, Vec3d::load(p)))
+        }
         Held::Refused(refusal) => Verdict::Refused(refusal),
     }
 }
@@ -41,6 +43,9 @@ pub fn intersects_segment(volume: &[f64], p0: &[f64], p1: &[f64]) -> Verdict
     }
     match planes_held(volume) {
         Held::Planes(count) => {
+            if !(all_finite(volume) & (all_finite(p0) & all_finite(p1))) {
+                return Verdict::Refused(Refusal::MissingNumber);
+            }
             Verdict::of(frustum::intersects_segment(
                 volume,
                 count,
@@ -64,6 +69,9 @@ pub fn intersects_bbox(volume: &[f64], bbox: &[f64]) -> Verdict
             if !is_flag(at(bbox, 22)) {
                 return Verdict::Refused(Refusal::Kind);
             }
+            if !(all_finite(volume) & all_finite(bbox)) {
+                return Verdict::Refused(Refusal::MissingNumber);
+            }
             Verdict::of(frustum::intersects_bbox(volume, count, BBox3d::load(bbox)))
         }
         Held::Refused(refusal) => Verdict::Refused(refusal),
@@ -79,6 +87,9 @@ pub fn intersects_triangle(volume: &[f64], p0: &[f64], p1: &[f64], p2: &[f64]) -
     }
     match planes_held(volume) {
         Held::Planes(count) => {
+            if !(all_finite(volume) & (all_finite(p0) & (all_finite(p1) & all_finite(p2)))) {
+                return Verdict::Refused(Refusal::MissingNumber);
+            }
             Verdict::of(triangle::intersects_triangle(
                 volume,
                 count,
@@ -103,6 +114,9 @@ pub fn intersects_view_volume(b: &[f64], m: &[f64]) -> Verdict
     }
     if !is_flag(at(b, 22)) {
         return Verdict::Refused(Refusal::Kind);
+    }
+    if !(all_finite(b) & all_finite(m)) {
+        return Verdict::Refused(Refusal::MissingNumber);
     }
     Verdict::of(clip::intersects_view_volume(BBox3d::load(b), Mat4d::load(m)))
 }

@@ -13,13 +13,9 @@ use mir.Val.{toZ, ofZ, hbits}
 use mir.ValLaws.{toZ-ofZ}
 use Rattle.number.specs.Limits.{gridLimit, normalLimit, distanceLimit}
 use Rattle.number.specs.Every.{every}
-use Rattle.number.proofs.Tests.{both-hold}
+use Rattle.number.proofs.Tests.{both-hold, and-true}
 use Rattle.whole.specs.Plane.{WholePlane}
 use Rattle.whole.specs.SegmentCall.{countOf, within, pointWithin, planeWithin, onGrid}
-
-and-true : (b : Bool) → (b && true) ≡ b
-and-true true = refl
-and-true false = refl
 
 pub within-is : (n : ℕ) (z : ℤ) → (leZ (negℤ (pos n)) z && leZ z (pos n)) ≡ within n z
 within-is zero (pos a) = ap (λ (t : Bool). t && leb a 0) (le-leb 0 a zero-le)

@@ -11,7 +11,7 @@ use Rattle.number.specs.Limits.{largestFile}
 use Rattle.number.specs.Answer.{refused, result}
 use Rattle.verdict.specs.View.{isCount}
 use Rattle.farm.specs.Directory.{sectionCount, boxSections, wellFormed}
-use Rattle.farm.specs.FarmFile.{volumeThere, countNumber, planeCount, sized, allFlagged, inView, checked, slotCount, slots, listing, listed, farmFileCall}
+use Rattle.farm.specs.FarmFile.{volumeThere, countNumber, planeCount, sized, allFlagged, numbersFinite, inView, checked, slotCount, slots, listing, listed, farmFileCall}
 use Rattle.farm.proofs.SectionsLeft.{as-many}
 use Rattle.farm.specs.Steps.{countOrZero}
 use Rattle.farm.proofs.Placed.{at-least}
@@ -58,11 +58,17 @@ module _ (b out : List ℕ) where
               unfolding checked
               other-flags f = rw (← left, w, v, c, s, f)
 
-              all-answered : (n : ℕ) (x : List ℕ) → allFlagged b ≡ true → n ≡ sectionCount b → x ≡ slots (map (inView b) (boxSections b)) → listing (result (n - 1)) x ≡ farmFileCall b out
-              unfolding checked
-              all-answered n x f e g =
-                  let m = length-map (boxSections b) (inView b) ∙ as-many b 1 (sectionCount b - 1) in
-                  rw (e, g, ← left, w, v, c, s, f) (ap (λ (k : ℕ). listing (result k) (slots (map (inView b) (boxSections b)))) (sym m))
+              module _ (f : allFlagged b ≡ true) where
+                missing : numbersFinite b ≡ false → listing (refused 13) out ≡ farmFileCall b out
+                unfolding checked
+                missing m = rw (← left, w, v, c, s, f, m)
+
+                all-answered : (n : ℕ) (x : List ℕ) → numbersFinite b ≡ true → n ≡ sectionCount b → x ≡ slots (map (inView b) (boxSections b))
+                    → listing (result (n - 1)) x ≡ farmFileCall b out
+                unfolding checked
+                all-answered n x m e g =
+                    let k = length-map (boxSections b) (inView b) ∙ as-many b 1 (sectionCount b - 1) in
+                    rw (e, g, ← left, w, v, c, s, f, m) (ap (λ (k : ℕ). listing (result k) (slots (map (inView b) (boxSections b)))) (sym k))
 
 -- a check that was passed, and one that was not
 passed : {r t : Bool} → r ≡ t → not r ≡ false → t ≡ true
@@ -145,9 +151,29 @@ returns-7 c =
     (passed (there .before .has-volume .ensures) (there .if4 .left)) (is-count (given .file .now) (count .before .plane-count .ensures) (count .if5 .left))
     (passed (size .before .are-sized .ensures) (size .if6 .left)) (stopped (flag .are-flagged .ensures) (c .if7 .taken))
 
+are-finite-requires : tie.Need-are-finite-requires
+are-finite-requires c κs =
+    let form = c .before .before .before .before .before .before .before .before in
+    passed (form .before .is-well-formed .ensures) (form .if3 .left)
+
+returns-8 : tie.Need-returns-8
+returns-8 c =
+    let finite = c .before in
+    let flag = finite .before in
+    let size = flag .before .before in
+    let count = size .before .before in
+    let there = count .before .before in
+    let form = there .before .before in
+    let room = form .before .before in
+    let given = room .before .before .before .before .args in
+    missing (given .file .now) (given .out .now) (room .before .if1 .left) (room .if2 .left) (passed (form .before .is-well-formed .ensures) (form .if3 .left))
+    (passed (there .before .has-volume .ensures) (there .if4 .left)) (is-count (given .file .now) (count .before .plane-count .ensures) (count .if5 .left))
+    (passed (size .before .are-sized .ensures) (size .if6 .left)) (passed (flag .before .are-flagged .ensures) (flag .if7 .left)) (stopped (finite .are-finite .ensures) (c .if8 .taken))
+
 file-slots-requires : tie.Need-file-slots-requires
 file-slots-requires c κs =
-    let flag = c .before in
+    let finite = c .before in
+    let flag = finite .before .before in
     let size = flag .before .before in
     let count = size .before .before in
     let form = count .before .before .before .before in
@@ -157,20 +183,22 @@ file-slots-requires c κs =
         count = is-count (given .file .now) (count .before .plane-count .ensures) (count .if5 .left);
         sizes = passed (size .before .are-sized .ensures) (size .if6 .left);
         flags = passed (flag .before .are-flagged .ensures) (flag .if7 .left);
+        finite = passed (finite .before .are-finite .ensures) (finite .if8 .left);
       },
       (its-count (given .file .now) (count .before .plane-count .ensures) (count .if5 .left), form .before .before .if2 .left),
     )
 
-sub-t18 : tie.Need-sub-t18
-sub-t18 c =
-    let form = c .before .before .before .before .before .before .before .before .before .before .before .before .before in
+sub-t19 : tie.Need-sub-t19
+sub-t19 c =
+    let form = c .before .before .before .before .before .before .before .before .before .before .before .before .before .before .before in
     let given = form .before .before .before .before .before .before .args in
     omega (arith, c .word-32 .ensures, at-least (given .file .now) (passed (form .before .is-well-formed .ensures) (form .if3 .left)))
 
-returns-8 : tie.Need-returns-8
-returns-8 c =
+returns-9 : tie.Need-returns-9
+returns-9 c =
     let called = c .before .before .before in
-    let flag = called .before .before in
+    let finite = called .before .before in
+    let flag = finite .before .before in
     let size = flag .before .before in
     let count = size .before .before in
     let there = count .before .before in
@@ -179,7 +207,8 @@ returns-8 c =
     let given = room .before .before .before .before .args in
     all-answered (given .file .now) (given .out .now) (room .before .if1 .left) (room .if2 .left) (passed (form .before .is-well-formed .ensures) (form .if3 .left))
     (passed (there .before .has-volume .ensures) (there .if4 .left)) (is-count (given .file .now) (count .before .plane-count .ensures) (count .if5 .left))
-    (passed (size .before .are-sized .ensures) (size .if6 .left)) _ _ (passed (flag .before .are-flagged .ensures) (flag .if7 .left)) (c .word-32 .ensures) (called .file-slots .ensures)
+    (passed (size .before .are-sized .ensures) (size .if6 .left)) (passed (flag .before .are-flagged .ensures) (flag .if7 .left)) _ _
+    (passed (finite .before .are-finite .ensures) (finite .if8 .left)) (c .word-32 .ensures) (called .file-slots .ensures)
 
 pub farm-file-spec : {M : Type 1} → statement M
 farm-file-spec =
@@ -197,8 +226,10 @@ farm-file-spec =
     returns-6
     are-flagged-requires
     returns-7
+    are-finite-requires
+    returns-8
     file-slots-requires
     (λ c κs. tt)
-    sub-t18
+    sub-t19
     (λ c. search needs)
-    returns-8)
+    returns-9)

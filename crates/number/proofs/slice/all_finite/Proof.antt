@@ -1,63 +1,81 @@
--- `number::slice::all_finite` meets its contract: what was found is that of the numbers passed, from the last to the first. Assumes nothing.
-use mathlib.Core.Path.{_≡_, sym, ap, _∙_}
-use mathlib.Core.Bool.{Bool, _&&_}
+-- `number::slice::all_finite` meets its contract: what was found of the numbers passed, and those left, decide; just the finite ones times zero are a zero.
+-- Assumes nothing.
+use mathlib.Core.Path.{_≡_, refl, sym, ap, _∙_}
+use mathlib.Core.Bool.{Bool, true, false, _&&_}
 use mathlib.Core.List.{List}
-use Prim.Native.Nat.{ℕ, _+_, _-_, _≤_, _<_}
+use Prim.Native.Nat.{ℕ, _+_, _-_, _*_, _≤_, _<_}
+use native.Mathlib.Nat.{mul-pos, mul-zero}
 use native.Mathlib.Numerals.{add-one}
 use native.Mathlib.Omega.{arith}
 use borrow.Author.Needs.{needs}
 use lib.ListN.{length, drop, getD}
 use lib.Seq.{drop-length, drop-cons}
-use lib.Ieee.{Float, nan}
+use lib.Dec.{lit<}
+use lib.Ieee.{Float, nan, inf, fin, binary64, up, unlike, mul, eq, ofBits}
 use lib.Ieee.Scale.{finite}
+use lib.Ieee.Fits.{down-pos}
+use Rattle.number.specs.Arithmetic.{zeroOf}
 use Rattle.number.specs.Slice.{allFinite}
+use Rattle.number.proofs.Tests.{and-true}
+use Rattle.number.proofs.Zeros.{round-zero}
 use Rattle.number.proofs.slice.all_finite.Statement.{statement}
 use Rattle.number.proofs.slice.all_finite.Tie as tie
 
--- one number more, at i, before those from k on
-more : (s : List Float) (i k : ℕ) (all now : Bool) → i < length s → k ≡ i + 1 → all ≡ allFinite (drop k s) → now ≡ finite (getD s i nan)
-    → (now && all) ≡ allFinite (drop i s)
+-- ---- a number times zero
+
+abbrev zero : Float
+zero = ofBits binary64 0
+
+is-zero : (s : Bool) → eq (zeroOf s) zero ≡ true
+unfolding eq ofBits
+is-zero true = refl
+is-zero false = refl
+
+times-zero : (x : Float) → eq (mul binary64 x zero) zero ≡ finite x
+unfolding eq mul ofBits
+times-zero nan = refl
+times-zero (inf s) = refl
+times-zero (fin s m e) = ap (λ (y : Float). eq y zero) (round-zero binary64 (unlike s false) _ _ (mul-pos (down-pos e) (lit< tt)) (mul-zero (m * up e))) ∙ is-zero (unlike s false)
+
+-- ---- the numbers passed, and those left
+
+regrouped : (a b c : Bool) → ((a && b) && c) ≡ (a && (b && c))
+regrouped true b c = refl
+regrouped false b c = refl
+
+-- one number more, at i
+more : (s : List Float) (i : ℕ) (all : Bool) → i < length s
+    → ((all && eq (mul binary64 (getD s i nan) zero) zero) && allFinite (drop (i + 1) s)) ≡ (all && allFinite (drop i s))
 unfolding allFinite
-more s i k all now h e p q =
-    (λ t. q t && p t) ∙ ap (λ (n : ℕ). finite (getD s i nan) && allFinite (drop n s)) (e ∙ add-one i) ∙ sym (ap allFinite (drop-cons s i nan h))
+more s i all h =
+    regrouped all (eq (mul binary64 (getD s i nan) zero) zero) (allFinite (drop (i + 1) s))
+    ∙ (λ t. all && (times-zero (getD s i nan) t && allFinite (drop (add-one i t) s)))
+    ∙ sym (ap (λ (l : List Float). all && allFinite l) (drop-cons s i nan h))
+
+-- none is left
+done : (s : List Float) (i : ℕ) (all : Bool) → i ≡ length s → (all && allFinite (drop i s)) ≡ allFinite s → all ≡ allFinite s
+unfolding allFinite
+done s i all e p = sym (and-true all) ∙ sym (ap (λ (l : List Float). all && allFinite l) (ap (λ (n : ℕ). drop n s) e ∙ drop-length s)) ∙ p
 
 abbrev Inv-loop : tie.InvT-loop
-Inv-loop s all₀ i₀ all i = (i ≤ length s) × (all ≡ allFinite (drop i s))
+Inv-loop s all₀ i₀ all i = (i ≤ length s) × ((all && allFinite (drop i s)) ≡ allFinite s)
 
 abbrev μ-loop : tie.MeasureT-loop
-μ-loop s all₀ i₀ all i = i
+μ-loop s all₀ i₀ all i = length s - i
 
 loop-holds : tie.Need-loop-holds Inv-loop μ-loop
-unfolding allFinite
-loop-holds c = (omega arith, sym (ap allFinite (drop-length (c .before .args .s .now))))
-
-sub-i : tie.Need-sub-i Inv-loop μ-loop
-sub-i c = search needs
-
-mul-is-finite : tie.Need-mul-is-finite Inv-loop μ-loop
-mul-is-finite c = search needs
-
-shared-slice-read-is-finite : tie.Need-shared-slice-read-is-finite Inv-loop μ-loop
-shared-slice-read-is-finite c = search needs
-
-is-finite-requires : tie.Need-is-finite-requires Inv-loop μ-loop
-is-finite-requires c κs = search needs
-
-loop-less : tie.Need-loop-less Inv-loop μ-loop
-loop-less c = search needs
+loop-holds c = (omega arith, refl)
 
 loop-again : tie.Need-loop-again Inv-loop μ-loop
 loop-again c =
-    let l = c .before .before .before .loop in
-    (omega arith, more _ (l .i - 1) (l .i) _ _ (omega arith) (omega arith) (l .inv .1) (c .is-finite .ensures))
+    let looped = c .before .before in
+    let l = looped .loop in
+    (omega arith, more (looped .before .args .s .now) (l .place) (l .all) (omega arith) ∙ l .inv .1)
 
 returns : tie.Need-returns Inv-loop μ-loop
-returns c =
-    let l = c .before .loop in
-    let e : l .i ≡ 0 = omega arith in
-    l .inv .1 ∙ ap (λ (i : ℕ). allFinite (drop i (c .before .before .before .args .s .now))) e
+returns c = let l = c .before .loop in done _ (l .place) (l .all) (omega arith) (l .inv .1)
 
 pub all-finite-spec : {M : Type 1} → statement M
 all-finite-spec =
     tie.close
-    (tie.spec Inv-loop μ-loop loop-holds sub-i mul-is-finite shared-slice-read-is-finite is-finite-requires loop-less loop-again returns)
+    (tie.spec Inv-loop μ-loop loop-holds (λ c. search needs) (λ c. search needs) (λ c. search needs) (λ c. search needs) loop-again returns)
