@@ -30,6 +30,7 @@
  *   10 a section of a farm file is not as long as its record
  *   11 a group of boxes is empty, or has more numbers than 256 boxes
  *   12 a volume's or a view's count of planes is not whole, or outside GF_FEWEST_PLANES to GF_MOST_PLANES
+ *   13 a number is missing: a record lent to a verdict, or one of a farm file, holds a NaN or an infinity
  *
  * With status 0 all that is lent for a result is written. Every refusal leaves all of it unchanged. Slices lent for reading
  * are never written. Where more than one refusal applies, the one that "Refuses" lists first is returned. A result of several
@@ -37,10 +38,12 @@
  * `uint32_t *out`, 1 for yes and 0 for no, and a place or a count into one `uint32_t`; these have no length, so no 2 is given.
  * Places count from 0; none is GF_NO_PLACE, which also fills slots that are not used.
  *
- * NaN and infinities may stand anywhere, and the arithmetic is that of IEEE 754. A comparison with a NaN is false: a NaN
- * distance is on no plane's positive side, a NaN alone does not make a range empty, a NaN flag or kind is refused with 3, a
- * NaN determinant with 4. Least and greatest pass over one NaN. A verdict is given whether or not a number is a NaN. A result
- * that is a NaN may be any NaN.
+ * NaN and infinities. A verdict, a yes or no about a view, is given on finite numbers alone: the five gf_intersects_ functions and
+ * gf_farm_file refuse a NaN or an infinity with 13, anywhere in what they are lent. To every other function NaN and infinities may
+ * be lent anywhere, and the arithmetic is that of IEEE 754. A comparison with a NaN is false: a NaN distance is on no plane's
+ * positive side, a NaN alone does not make a range empty, a NaN flag or kind is refused with 3, a NaN determinant with 4. Least and
+ * greatest pass over one NaN. In a verdict a NaN can still come about where finite numbers overflow, and the same holds of it. A
+ * result that is a NaN may be any NaN.
  *
  * Records, in numbers:
  *
@@ -264,9 +267,10 @@ uint32_t gf_camera_set_from_view_and_projection(const double *view, size_t view_
  * slots. 9: the file has fewer than 4 bytes, its count of sections is not from 2 to 64, the directory does not fit, or a section
  * starts before the end of the directory or of the section listed before it, or passes the end of the file. 10: the volume's section
  * has fewer than 392 bytes. 12: the volume's count of planes. 10: a section has not 8 bytes for each number of its record, the
- * volume's by its count. 3: the flag of a box is neither 0, of either sign, nor 1. Each is looked for in the whole file before the
- * next. The bytes need no alignment.
- * In: the file, of any length. Out: 63 slots, and the count. Refuses: 1, 2, 9, 10, 12, 10, 3. */
+ * volume's by its count. 3: the flag of a box is neither 0, of either sign, nor 1. 13: a number of the volume, its rays among them,
+ * or of a box is a NaN or an infinity. Each is looked for in the whole file before the next; gaps are not read. The bytes need no
+ * alignment.
+ * In: the file, of any length. Out: 63 slots, and the count. Refuses: 1, 2, 9, 10, 12, 10, 3, 13. */
 uint32_t gf_farm_file(const uint8_t *file, size_t file_len, uint32_t *out, size_t out_len, uint32_t *count);
 
 /* ---- boxes. 3, in each: the flag of a box is neither 0, of either sign, nor 1 */
@@ -304,34 +308,38 @@ uint32_t gf_bbox_centroid(const double *b, size_t b_len, double *out, size_t out
 /* ---- verdicts: the first four by the planes of a volume, where touching counts, of boxes only as far as rounding lets it
  * (gf_intersects_bbox). docs/VERDICTS.md tells what they mean.
  * What these four refuse, in order: 1 for a volume below 49 numbers or another input of the wrong length; 12 for a count that is
- * not whole or outside its limits, a NaN among them; 1 for a volume of another length than its count's; then 3, of a box */
+ * not whole or outside its limits, a NaN among them; 1 for a volume of another length than its count's; 3, of a box, for a flag, a NaN
+ * among them; then 13 for a NaN or an infinity anywhere in the records lent, also where the verdict would not look: in rays, in planes
+ * behind the six, in the matrix of a box with an empty range */
 
-/* Whether the point is on the positive side of every plane. The rays are not read.
- * In: volume, p 3. Out: yes or no. Refuses: 1, 12, 1. */
+/* Whether the point is on the positive side of every plane. The rays have no part in it but for 13.
+ * In: volume, p 3. Out: yes or no. Refuses: 1, 12, 1, 13. */
 uint32_t gf_intersects_point(const double *volume, size_t volume_len, const double *p, size_t p_len, uint32_t *out);
 
-/* Whether any of the segment from p0 to p1, its ends included, is on the positive side of every plane. The rays are not read.
- * In: volume, p0 3, p1 3. Out: yes or no. Refuses: 1, 12, 1. */
+/* Whether any of the segment from p0 to p1, its ends included, is on the positive side of every plane. The rays have no part in it
+ * but for 13.
+ * In: volume, p0 3, p1 3. Out: yes or no. Refuses: 1, 12, 1, 13. */
 uint32_t gf_intersects_segment(const double *volume, size_t volume_len, const double *p0, size_t p0_len, const double *p1, size_t p1_len, uint32_t *out);
 
 /* Whether any of the triangle is in view, by the original six planes alone: a corner, some of a side, or a place where a ray of
  * the volume meets it. Only the first ray is tried where all corners are on the positive side of the near and of the far plane.
- * It is exact neither way: a ray may meet the triangle behind the far plane, and may miss one that cuts through the view.
- * In: volume, p0 3, p1 3, p2 3. Out: yes or no. Refuses: 1, 12, 1. */
+ * It is exact neither way: a ray may meet the triangle behind the far plane, and may miss one that cuts through the view. 13 is
+ * given for all planes and rays, whichever are asked.
+ * In: volume, p0 3, p1 3, p2 3. Out: yes or no. Refuses: 1, 12, 1, 13. */
 uint32_t gf_intersects_triangle(const double *volume, size_t volume_len, const double *p0, size_t p0_len, const double *p1, size_t p1_len, const double *p2, size_t p2_len, uint32_t *out);
 
 /* Whether the placed box is wholly behind no plane; a box near an edge or a corner of the view may count though it is just
  * outside. Each normal is made unit length in the box's space, which rounds, so that a box which just touches may get a no: not
  * one on the farm grid by planes whose normal is a single 1 or -1. A box with an empty range is not in view. One whose matrix has
- * no inverse, its determinant's size not above 1e-13, is taken as if its matrix were the identity. The rays are not read.
- * 3: the flag is neither 0, of either sign, nor 1.
- * In: volume, bbox 23. Out: yes or no. Refuses: 1, 12, 1, 3. */
+ * no inverse, its determinant's size not above 1e-13 or, where products overflow, a NaN, is taken as if its matrix were the identity.
+ * The rays have no part in it but for 13. 3: the flag is neither 0, of either sign, nor 1. 13: also of a box with an empty range.
+ * In: volume, bbox 23. Out: yes or no. Refuses: 1, 12, 1, 3, 13. */
 uint32_t gf_intersects_bbox(const double *volume, size_t volume_len, const double *bbox, size_t bbox_len, uint32_t *out);
 
 /* Whether the box is in the clip volume of a matrix of view and projection: moved there, some corner has x below w and some
  * has x above -w, and so for y and z. These comparisons are strict, so touching does not count. Emptiness is not tested.
- * 3: the flag is neither 0, of either sign, nor 1.
- * In: bbox 23, m 16. Out: yes or no. Refuses: 1, 3. */
+ * 3: the flag is neither 0, of either sign, nor 1. 13: a number of the box or of m is a NaN or an infinity.
+ * In: bbox 23, m 16. Out: yes or no. Refuses: 1, 3, 13. */
 uint32_t gf_intersects_view_volume(const double *bbox, size_t bbox_len, const double *m, size_t m_len, uint32_t *out);
 
 /* ---- the same in whole numbers: no float is read, made or written. An end's coordinates are at most 65536 in size, the entries

@@ -1,6 +1,6 @@
 //! Calls that lend slices.
 
-use crate::inputs::{Draw, Rng, mixed};
+use crate::inputs::{self, Draw, MISSING, Rng, mixed};
 use crate::judge;
 use crate::lent::{INPUTS, Input, Ins, Lent, Shape, Side, Single};
 use crate::op::{Op, Timed, Timing};
@@ -33,7 +33,11 @@ pub struct Call<I> {
     of: Exported,
     agrees: fn(f64, f64) -> bool,
     fixed: Vec<I>,
+    /// Always tried too, and not recorded.
+    tried: Vec<I>,
     drawn: Draw<I>,
+    /// Of drawn inputs some numbers are missing.
+    struck: bool,
     sets: Vec<Set<I>>,
     timed_against: Option<Box<dyn Side>>,
     recorded: Option<fn() -> Vec<Words>>,
@@ -50,7 +54,9 @@ impl<I: Input> Call<I> {
             of,
             agrees,
             fixed: vec![],
+            tried: vec![],
             drawn,
+            struck: false,
             sets: vec![],
             timed_against: None,
             recorded: None,
@@ -72,6 +78,25 @@ impl<I: Input> Call<I> {
         #[cfg(test)]
         self.mended.extend(&inputs);
         self.fixed.extend(inputs);
+        self
+    }
+
+    /// Inputs of which every number is missing in turn, and several are: they
+    /// are always tried, and of the first each number once is recorded. Of
+    /// drawn inputs some are struck so.
+    pub fn missing(mut self, of: &[I]) -> Self {
+        self.struck = true;
+        for (k, &input) in of.iter().enumerate() {
+            for (r, record) in input.records().into_iter().take(self.of.takes.len()).enumerate() {
+                for (i, numbers) in inputs::struck(record).into_iter().enumerate() {
+                    let mut struck = input;
+                    struck.records_mut()[r].copy_from_slice(&numbers);
+                    let (place, way) = (i / MISSING.len(), i % MISSING.len());
+                    let recorded = k == 0 && place < record.len() && way == place % MISSING.len();
+                    if recorded { &mut self.fixed } else { &mut self.tried }.push(struck);
+                }
+            }
+        }
         self
     }
 
@@ -121,18 +146,31 @@ impl<I: Input> Call<I> {
         Box::new(self)
     }
 
+    /// How many inputs are always tried.
+    fn always(&self) -> u64 {
+        (self.fixed.len() + self.tried.len()) as u64
+    }
+
     fn input(&self, case: u64, rng: &mut Rng) -> I {
-        match self.fixed.get(case as usize) {
+        match self.fixed.iter().chain(&self.tried).nth(case as usize) {
             Some(&input) => input,
-            None => (self.drawn)(case - self.fixed.len() as u64, rng),
+            None => self.draw(case - self.always(), rng),
         }
+    }
+
+    fn draw(&self, case: u64, rng: &mut Rng) -> I {
+        let mut input = (self.drawn)(case, rng);
+        if self.struck {
+            inputs::strike_or_mend(rng, &mut input.records_mut());
+        }
+        input
     }
 
     /// The lengths of this case: one call in eight has wrong ones, where
     /// only one slice is one short or one long, or any slice has any length.
     fn lengths(&self, case: u64, input: &I, rng: &mut Rng) -> [usize; INPUTS + 1] {
         let right = self.right_lengths(input);
-        if case < self.fixed.len() as u64 || rng.below(8) != 0 {
+        if case < self.always() || rng.below(8) != 0 {
             return right;
         }
         let mut len = right;
@@ -198,6 +236,12 @@ impl<I: Input> Call<I> {
 
 #[cfg(test)]
 impl<I: Input> Call<I> {
+    /// The same call by another than the archive's function.
+    pub fn by(mut self, ours: Box<dyn Side>) -> Self {
+        self.of.ours = Some(ours);
+        self
+    }
+
     /// What the judge answers, with these lengths.
     fn judged(&self, input: I, len: [usize; INPUTS + 1]) -> u32 {
         self.lay(input, len).put_to(self.of.rust.as_ref())
@@ -284,7 +328,7 @@ impl<I: Input> Trial for Call<I> {
     }
 
     fn cases(&self, count: u64) -> u64 {
-        if self.of.ours.is_none() { 0 } else { count.max(self.fixed.len() as u64) }
+        if self.of.ours.is_none() { 0 } else { count.max(self.always()) }
     }
 
     fn agree(&self, case: u64, rng: Rng) -> Option<usize> {
@@ -368,7 +412,7 @@ impl<I: Input> Op for Call<I> {
             };
             words::record(&given, status, &result)
         };
-        let drawn = |case| (self.drawn)(case, &mut Rng::at(1, case));
+        let drawn = |case| self.draw(case, &mut Rng::at(1, case));
         let kind = |&input: &I| {
             let (status, desk) = answered(input);
             self.outcome(status, &desk)

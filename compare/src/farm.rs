@@ -80,9 +80,10 @@ impl FarmFiles {
 }
 
 /// How many faults a file can have: its size, the slots lent with it, where
-/// its sections lie, a volume too short for any, its count, lengths, flags.
+/// its sections lie, a volume too short for any, its count, lengths, flags,
+/// missing numbers.
 #[cfg(test)]
-const FAULTS: usize = 7;
+const FAULTS: usize = 8;
 
 /// A file with all of these but the first, and how many slots are lent.
 #[cfg(test)]
@@ -90,7 +91,8 @@ fn faulty(mended: usize, file: &mut FarmFile) -> usize {
     use crate::inputs::{CUBE, IDENTITY, Volume, box_of, bytes_of};
     let has = |fault: usize| fault >= mended;
     let rng = &mut Rng::at(1, 0);
-    let block = box_of([0.0, 0.0, 0.0, 1.0, 1.0, 1.0], IDENTITY, if has(6) { 2.0 } else { 0.0 });
+    let edge = if has(7) { f64::NAN } else { 1.0 };
+    let block = box_of([0.0, 0.0, 0.0, 1.0, edge, 1.0], IDENTITY, if has(6) { 2.0 } else { 0.0 });
     let volume = Volume::of(CUBE).counted(if has(4) { f64::NAN } else { 6.0 });
     file.begin(3);
     file.put(0, &bytes_of(volume.numbers()));
@@ -114,7 +116,8 @@ fn faulty(mended: usize, file: &mut FarmFile) -> usize {
 /// Files that are always tried.
 static FIXED: LazyLock<Vec<Vec<u8>>> = LazyLock::new(|| {
     let notable = inputs::notable_files().into_iter().map(|file| file.bytes).collect();
-    [notable, inputs::large_files(), inputs::truncated_files(), inputs::corrupted_files()].concat()
+    [notable, inputs::large_files(), inputs::truncated_files(), inputs::corrupted_files(), inputs::struck_files()]
+        .concat()
 });
 
 /// How many slots each of these is tried with.
@@ -263,16 +266,18 @@ impl Timed for FarmFiles {
         let Some(ours) = &self.ours else {
             return vec![];
         };
-        let timing = |set, planes, placement: fn(&mut Rng) -> Matrix| {
+        let untested: &'static Reader = Box::leak(Box::new(behind_pointers(reader::untested_farm_file)));
+        let timing = |set, planes, placement: fn(&mut Rng) -> Matrix, rust| {
             let drawn = (0..TIMED as u64).map(|i| inputs::full_file(&mut Rng::at(1, i), planes, placement).bytes);
             let files: &'static [Vec<u8>] = drawn.collect::<Vec<_>>().leak();
             let pass = |reader| Box::new(move || all(reader, files));
-            Timing { set, ours: pass(ours), rust: pass(&self.judge) }
+            Timing { set, ours: pass(ours), rust: pass(rust) }
         };
         vec![
-            timing("63 rigid boxes", FEWEST_PLANES, inputs::rigid_placement),
-            timing("63 scaled boxes", FEWEST_PLANES, inputs::placement),
-            timing("the most planes, 63 rigid boxes", MOST_PLANES, inputs::rigid_placement),
+            timing("63 rigid boxes", FEWEST_PLANES, inputs::rigid_placement, untested),
+            timing("63 rigid, both test", FEWEST_PLANES, inputs::rigid_placement, &self.judge),
+            timing("63 scaled boxes", FEWEST_PLANES, inputs::placement, untested),
+            timing("the most planes, 63 rigid boxes", MOST_PLANES, inputs::rigid_placement, untested),
         ]
     }
 }

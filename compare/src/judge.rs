@@ -28,6 +28,8 @@ pub const WRONG_SECTION: u32 = 10;
 pub const GROUP_SIZE: u32 = 11;
 /// A count of planes that is not whole, or outside its limits.
 pub const NO_COUNT: u32 = 12;
+/// A number of a verdict's records is missing: a NaN or an infinity.
+pub const MISSING_NUMBER: u32 = 13;
 
 /// No place, and what fills a slot that is not used.
 pub const NO_PLACE: u32 = u32::MAX;
@@ -35,6 +37,12 @@ pub const NO_PLACE: u32 = u32::MAX;
 /// How many planes a volume has at least and at most.
 pub const FEWEST_PLANES: usize = 6;
 pub const MOST_PLANES: usize = 14;
+
+/// The last check of a verdict, made of every record that is lent: no number
+/// is a NaN or an infinity, whether or not the verdict looks at it.
+pub fn finite(record: &[f64]) -> Result<(), u32> {
+    if record.iter().all(|x| x.is_finite()) { Ok(()) } else { Err(MISSING_NUMBER) }
+}
 
 /// Paper 01's rule: equal bits, both NaN, or both zero.
 pub fn matches(judge: f64, ours: f64) -> bool {

@@ -213,15 +213,23 @@ where
 pub trait Input: Copy + Send + Sync + 'static {
     /// The numbers of each; none for what follows.
     fn records(&self) -> [&[f64]; INPUTS];
+
+    /// Those of each that there is.
+    fn records_mut(&mut self) -> Vec<&mut [f64]>;
 }
 
 /// A record or a lone number of a call's inputs.
 pub trait Record: Copy + Send + Sync + 'static {
     fn numbers(&self) -> &[f64];
+    fn numbers_mut(&mut self) -> &mut [f64];
 }
 
 impl<const N: usize> Record for [f64; N] {
     fn numbers(&self) -> &[f64] {
+        self
+    }
+
+    fn numbers_mut(&mut self) -> &mut [f64] {
         self
     }
 }
@@ -230,11 +238,19 @@ impl Record for Volume {
     fn numbers(&self) -> &[f64] {
         self.numbers()
     }
+
+    fn numbers_mut(&mut self) -> &mut [f64] {
+        self.numbers_mut()
+    }
 }
 
 impl Record for f64 {
     fn numbers(&self) -> &[f64] {
         slice::from_ref(self)
+    }
+
+    fn numbers_mut(&mut self) -> &mut [f64] {
+        slice::from_mut(self)
     }
 }
 
@@ -261,6 +277,10 @@ impl Record for Single {
     fn numbers(&self) -> &[f64] {
         slice::from_ref(&self.0)
     }
+
+    fn numbers_mut(&mut self) -> &mut [f64] {
+        slice::from_mut(&mut self.0)
+    }
 }
 
 macro_rules! input {
@@ -270,6 +290,10 @@ macro_rules! input {
                 let mut records: [&[f64]; INPUTS] = [&[]; INPUTS];
                 $(records[$field] = self.$field.numbers();)*
                 records
+            }
+
+            fn records_mut(&mut self) -> Vec<&mut [f64]> {
+                vec![$(self.$field.numbers_mut()),*]
             }
         }
     };

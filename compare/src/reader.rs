@@ -1,7 +1,9 @@
 //! The farm file of paper 02, read by its words, with the Rust's verdict on
 //! each box: the judge of `gf_farm_file` and of the program.
 
-use crate::judge::{FEWEST_PLANES, MOST_PLANES, NO_FARM_FILE, NO_SUCH_VALUE, WRONG_INPUT, WRONG_OUTPUT, WRONG_SECTION};
+use crate::judge::{
+    FEWEST_PLANES, MISSING_NUMBER, MOST_PLANES, NO_FARM_FILE, NO_SUCH_VALUE, WRONG_INPUT, WRONG_OUTPUT, WRONG_SECTION,
+};
 use crate::rust::{ask, boxed, counted};
 use openusd::gf::BBox3d;
 
@@ -63,10 +65,17 @@ fn record<const N: usize>(file: &[u8], pair: &[u8; 8]) -> [f64; N] {
     words.first_chunk::<N>().expect("the section is as long").map(f64::from_le_bytes)
 }
 
+/// Whether every number of a section is finite.
+fn is_finite(file: &[u8], pair: &[u8; 8]) -> bool {
+    let (offset, length) = section(pair);
+    let words = file[offset as usize..][..length as usize].as_chunks().0;
+    words.iter().all(|word| f64::from_le_bytes(*word).is_finite())
+}
+
 /// How many planes the volume has, its section and those of the boxes, or the
 /// number of the first check that fails; each is made over the whole file
-/// before the next.
-fn checked(file: &[u8]) -> Result<(usize, &[u8; 8], Directory<'_>), u32> {
+/// before the next. The last is left out where it is only timed without.
+fn checked(file: &[u8], tests: bool) -> Result<(usize, &[u8; 8], Directory<'_>), u32> {
     let (volume, boxes) = directory(file).and_then(|pairs| pairs.split_first()).ok_or(NO_FARM_FILE)?;
     if section(volume).1 < LEAST_VOLUME as u64 {
         return Err(WRONG_SECTION);
@@ -80,6 +89,9 @@ fn checked(file: &[u8]) -> Result<(usize, &[u8; 8], Directory<'_>), u32> {
     let flag = |pair: &[u8; 8]| record::<23>(file, pair)[22];
     if !boxes.iter().all(|pair| matches!(flag(pair), 0.0 | 1.0)) {
         return Err(NO_SUCH_VALUE);
+    }
+    if tests && !(is_finite(file, volume) && boxes.iter().all(|pair| is_finite(file, pair))) {
+        return Err(MISSING_NUMBER);
     }
     Ok((planes, volume, boxes))
 }
@@ -106,13 +118,22 @@ fn verdicts(file: &[u8], boxes: Directory<'_>, sees: impl Fn(&BBox3d) -> bool) -
 /// `gf_farm_file`: the verdict on each box in its slot and how many there
 /// are, or the number of a refusal, which leaves both as they were.
 pub fn farm_file(file: &[u8], out: &mut [u32], count: &mut u32) -> u32 {
+    read(file, out, count, true)
+}
+
+/// The same without the test for missing numbers, to be timed against.
+pub fn untested_farm_file(file: &[u8], out: &mut [u32], count: &mut u32) -> u32 {
+    read(file, out, count, false)
+}
+
+fn read(file: &[u8], out: &mut [u32], count: &mut u32, tests: bool) -> u32 {
     if file.len() > LARGEST {
         return WRONG_INPUT;
     }
     if out.len() != BOXES {
         return WRONG_OUTPUT;
     }
-    let (planes, volume, boxes) = match checked(file) {
+    let (planes, volume, boxes) = match checked(file, tests) {
         Ok(sections) => sections,
         Err(refusal) => return refusal,
     };
@@ -157,6 +178,12 @@ mod tests {
         assert_eq!(lines(&file), "1 yes\n");
         file[412..420].copy_from_slice(&11_f64.to_le_bytes());
         assert_eq!(lines(&file), "1 no\n");
+        // The last number of the last ray, an entry of the matrix; a flag.
+        for (at, refusal) in [(404, 13), (468, 13), (588, 3)] {
+            let mut file = file.clone();
+            file[at..at + 8].copy_from_slice(&f64::NAN.to_le_bytes());
+            assert_eq!(lines(&file), format!("refused {refusal}\n"));
+        }
     }
 
     /// The same box, and a wall behind the cube's planes at x = 9.

@@ -46,6 +46,12 @@ slips! {
     PlanesAreTen PlanesAreThree PlanesBeforeShort PlanesAfterVolume PlanesAfterBoxes PlanesAfterFlags PlanesFirst
     // Flags.
     NegativeZeroRefused NanAllowed NonZeroAllowed FlagBits FirstFlagUnchecked LastFlagUnchecked FlagTruncated
+    // Missing numbers: which are looked for, what is one, and when.
+    MissingUnchecked MissingVolume MissingSixPlanes MissingScreens MissingLastPlane MissingRays MissingLastRay
+    MissingLastOfVolume MissingBoxes MissingFirstBox MissingLastBox MissingRanges MissingMatrices MissingLastEntry
+    MissingEmptyBoxes MissingInfinities MissingPositive MissingNegative MissingNans MissingSignalling MissingLargest
+    MissingGaps MissingGapBefore MissingBehindSections MissingBeforeFlags MissingWithFlags MissingBeforePlanes
+    MissingBeforeLengths MissingFirst MissingFlag MissingCount MissingIsThree MissingIsEight MissingIsNo
     // The order.
     SectionBySection LengthsWithPlaces FlagsWithLengths FlagsFirst LengthsFirst
     // What is read.
@@ -54,7 +60,7 @@ slips! {
     PlanesUsedToOneLess PlanesAllUsed RaysUsed RaysInFront
     // The result.
     LastNotJudged SlotByOne Inverted UnusedLeft UnusedZero UnusedOneShort CountOfSections CountNotWritten
-    CountOnRefusal OutOnRefusal OutOnFlag FileWritten BesideWritten BesideCountWritten
+    CountOnRefusal OutOnRefusal OutOnFlag OutOnMissing FileWritten BesideWritten BesideCountWritten
 }
 
 /// The most planes.
@@ -228,6 +234,65 @@ fn has_flag(slip: Slip, file: &[u8], sections: &Sections, i: usize) -> bool {
     }
 }
 
+/// Whether a number counts as missing.
+fn is_missing(slip: Slip, x: f64) -> bool {
+    let bits = x.to_bits();
+    match slip {
+        Slip::MissingInfinities => x.is_nan(),
+        Slip::MissingPositive => x.is_nan() || x == f64::NEG_INFINITY,
+        Slip::MissingNegative => x.is_nan() || x == f64::INFINITY,
+        Slip::MissingNans => x.is_infinite(),
+        Slip::MissingSignalling => x.is_infinite() || x.is_nan() && bits >> 51 & 1 == 1,
+        Slip::MissingLargest => !(x.abs() < f64::MAX),
+        _ => !x.is_finite(),
+    }
+}
+
+/// Whether number `n` of section `i`, of `numbers`, is not looked at.
+fn is_passed(slip: Slip, file: &[u8], sections: &Sections, i: usize, n: u64, numbers: u64) -> bool {
+    let last = sections.at.len() - 1;
+    let (volume, ray) = (i == 0, i == 0 && n + 24 >= numbers);
+    let plane = volume && n > 0 && !ray;
+    let is_empty = || {
+        let range: [f64; 6] = record(file, sections.at[i]);
+        (0..3).any(|axis| range[axis] > range[axis + 3])
+    };
+    match slip {
+        Slip::MissingUnchecked => true,
+        Slip::MissingVolume => volume,
+        Slip::MissingSixPlanes => plane && n < 25,
+        Slip::MissingScreens => plane && n >= 25,
+        Slip::MissingLastPlane => plane && n + 28 >= numbers,
+        Slip::MissingRays => ray,
+        Slip::MissingLastRay => volume && n + 6 >= numbers,
+        Slip::MissingLastOfVolume => volume && n + 1 == numbers,
+        Slip::MissingBoxes => !volume,
+        Slip::MissingFirstBox => i == 1,
+        Slip::MissingLastBox => i == last,
+        Slip::MissingRanges => !volume && n < 6,
+        Slip::MissingMatrices => !volume && n >= 6,
+        Slip::MissingLastEntry => !volume && n == 21,
+        Slip::MissingEmptyBoxes => !volume && is_empty(),
+        Slip::MissingIsNo => !volume,
+        _ => false,
+    }
+}
+
+/// Whether a section lacks a number, or with some slips what is beside it.
+fn lacks(slip: Slip, file: &[u8], sections: &Sections, i: usize) -> bool {
+    let (at, length) = (sections.at[i], sections.length[i]);
+    let next = sections.at.get(i + 1).copied().unwrap_or(sections.size);
+    let (from, to) = match slip {
+        Slip::MissingGaps => (at, next.max(at + length)),
+        Slip::MissingGapBefore if i == 0 => (4 + 8 * sections.at.len() as u64, at + length),
+        Slip::MissingBehindSections if i + 1 == sections.at.len() => (at, sections.size),
+        _ => (at, at + length),
+    };
+    let numbers = to.min(sections.size).saturating_sub(from) / 8;
+    let missing = |n: u64| is_missing(slip, f64::from_bits(number(file, from + 8 * n, 8)));
+    (0..numbers).any(|n| missing(n) && !is_passed(slip, file, sections, i, n, numbers))
+}
+
 /// The sections, where the count may stand and the directory fits.
 fn sections(slip: Slip, file: &[u8]) -> Result<Sections, u32> {
     let size = file.len() as u64;
@@ -286,8 +351,56 @@ fn checked(slip: Slip, file: &[u8]) -> Result<Sections, u32> {
         _ => Err(10),
     };
     let flag = |i: usize| if has_flag(slip, file, &found, i) { Ok(()) } else { Err(3) };
+    let finite = |i: usize| match slip {
+        _ if !lacks(slip, file, &found, i) => Ok(()),
+        Slip::MissingIsThree => Err(3),
+        Slip::MissingIsEight => Err(8),
+        _ => Err(13),
+    };
     match slip {
-        Slip::SectionBySection => all.clone().try_for_each(|i| lies(i).and(length(i)).and(flag(i)))?,
+        Slip::MissingFirst => all.clone().try_for_each(finite)?,
+        Slip::MissingBeforePlanes => {
+            all.clone().try_for_each(lies)?;
+            if !is_short(slip, found.length[0]) {
+                all.clone().try_for_each(finite)?;
+            }
+        }
+        Slip::MissingBeforeLengths => {
+            all.clone().try_for_each(lies)?;
+            if !is_short(slip, found.length[0]) {
+                stated(slip, file, &found)?;
+                all.clone().try_for_each(finite)?;
+            }
+        }
+        Slip::MissingBeforeFlags => {
+            all.clone().try_for_each(lies)?;
+            all.clone().try_for_each(length)?;
+            all.clone().try_for_each(finite)?;
+        }
+        Slip::MissingWithFlags => {
+            all.clone().try_for_each(lies)?;
+            all.clone().try_for_each(length)?;
+            all.clone().try_for_each(|i| flag(i).and(finite(i)))?;
+        }
+        // A NaN or an infinity in the place of a flag, or of the count.
+        Slip::MissingFlag => {
+            all.clone().try_for_each(lies)?;
+            all.clone().try_for_each(length)?;
+            let given = |i: usize| f64::from_bits(number(file, found.at[i] + 176, 8));
+            if all.clone().skip(1).any(|i| !given(i).is_finite()) {
+                return Err(13);
+            }
+        }
+        Slip::MissingCount => {
+            all.clone().try_for_each(lies)?;
+            let count = f64::from_bits(number(file, found.at[0], 8));
+            if !is_short(slip, found.length[0]) && !count.is_finite() {
+                return Err(13);
+            }
+        }
+        Slip::SectionBySection => {
+            all.clone().try_for_each(|i| lies(i).and(length(i)).and(flag(i)).and(finite(i)))?;
+        }
         Slip::LengthsWithPlaces => all.clone().try_for_each(|i| lies(i).and(length(i)))?,
         Slip::FlagsWithLengths => {
             all.clone().try_for_each(lies)?;
@@ -314,6 +427,7 @@ fn checked(slip: Slip, file: &[u8]) -> Result<Sections, u32> {
     if slip == Slip::PlanesAfterFlags {
         stated(slip, file, &found)?;
     }
+    all.clone().try_for_each(finite)?;
     Ok(found)
 }
 
@@ -372,6 +486,7 @@ fn read(slip: Slip, file: &[u8], out: &mut [u32], count: &mut u32) -> u32 {
                 Slip::CountOnRefusal => *count = 0,
                 Slip::OutOnRefusal => out.iter_mut().for_each(|slot| *slot = u32::MAX),
                 Slip::OutOnFlag if refusal == 3 => out[0] = 1,
+                Slip::OutOnMissing if refusal == 13 => out[0] = 1,
                 _ => {}
             }
             return refusal;
@@ -384,7 +499,8 @@ fn read(slip: Slip, file: &[u8], out: &mut [u32], count: &mut u32) -> u32 {
     for i in 1..=used {
         let mut one: [f64; 23] = record(file, read_from(slip, &found, i));
         one[22] = 0.0;
-        let yes = view.intersects_bbox(&boxed(&one).expect("its flag is 0"));
+        let lacks = slip == Slip::MissingIsNo && one.iter().any(|x| !x.is_finite());
+        let yes = !lacks && view.intersects_bbox(&boxed(&one).expect("its flag is 0"));
         let slot = if slip == Slip::SlotByOne { i % out.len() } else { i - 1 };
         out[slot] = u32::from(yes != (slip == Slip::Inverted));
     }

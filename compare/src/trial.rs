@@ -7,7 +7,7 @@ use std::ops::Range;
 pub struct Outcome;
 
 impl Outcome {
-    pub const NAMES: [&'static str; 22] = [
+    pub const NAMES: [&'static str; 23] = [
         "done",
         "refused 1",
         "refused 2",
@@ -21,6 +21,7 @@ impl Outcome {
         "refused 10",
         "refused 11",
         "refused 12",
+        "refused 13",
         "no",
         "yes",
         "zero",
@@ -31,12 +32,12 @@ impl Outcome {
         "a place",
         "none",
     ];
-    pub const NO: usize = 13;
-    pub const YES: usize = 14;
+    pub const NO: usize = 14;
+    pub const YES: usize = 15;
     /// The first of the kinds of number.
-    pub const NUMBER: usize = 15;
-    pub const PLACE: usize = 20;
-    pub const NONE: usize = 21;
+    pub const NUMBER: usize = 16;
+    pub const PLACE: usize = 21;
+    pub const NONE: usize = 22;
 }
 
 /// How many differing cases are described.

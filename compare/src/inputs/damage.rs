@@ -80,7 +80,7 @@ fn damage(rng: &mut Rng, file: &mut FarmFile) {
     }
     let i = rng.below(pairs as u64) as usize;
     let directory = 4 + 8 * pairs;
-    match rng.below(35) {
+    match rng.below(42) {
         0..6 => file.set_flag(if i == 0 { 1 } else { i }.min(pairs - 1), other_flag(rng)),
         6..8 => file.set_count(other_count(rng, pairs as u32)),
         8..13 => file.set_offset(i, other_offset(rng, file, i)),
@@ -132,6 +132,15 @@ fn damage(rng: &mut Rng, file: &mut FarmFile) {
             let count = file.bytes.get(file.offset(0) as usize..).and_then(|bytes| bytes.first_chunk());
             file.set_number(0, 0, other_planes(rng, count.map_or(0.0, |count| f64::from_le_bytes(*count))));
         }
+        // A missing number at any place of a section, of the last or of the
+        // volume's rays.
+        34..41 => {
+            let i = rng.pick(&[i, i, pairs - 1]);
+            let numbers = u64::from(file.length(i) / 8).clamp(1, 160);
+            let number =
+                if i == 0 && rng.once_in(2) { numbers - 1 - rng.below(24.min(numbers)) } else { rng.below(numbers) };
+            file.set_number(i, number as usize, missing(rng));
+        }
         // Any numbers.
         _ => file.set_number(i, rng.below(49) as usize, odd(rng)),
     }
@@ -155,7 +164,7 @@ mod tests {
 
     #[test]
     fn drawn_files_meet_every_answer() {
-        let mut statuses = [0; 13];
+        let mut statuses = [0; 14];
         let (mut yes, mut no, mut full) = (0, 0, 0);
         let mut file = FarmFile::default();
         for case in 0..100_000 {
@@ -168,10 +177,10 @@ mod tests {
             no += verdicts.iter().filter(|&&slot| slot == 0).count();
             full += u32::from(verdicts.len() == BOXES);
         }
-        let [done, large, _, flag, _, _, _, _, _, lie, length, _, planes] = statuses;
-        assert_eq!(done + large + flag + lie + length + planes, 100_000);
+        let [done, large, _, flag, _, _, _, _, _, lie, length, _, planes, missing] = statuses;
+        assert_eq!(done + large + flag + lie + length + planes + missing, 100_000);
         assert!(done > 30_000 && lie > 20_000 && length > 5_000 && flag > 5_000 && large > 30, "{statuses:?}");
-        assert!(planes > 3_000, "{statuses:?}");
+        assert!(planes > 3_000 && missing > 5_000, "{statuses:?}");
         assert!(yes > 30_000 && no > 30_000 && full > 300, "{yes} {no} {full}");
     }
 }

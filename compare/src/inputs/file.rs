@@ -44,6 +44,13 @@ impl FarmFile {
         }
     }
 
+    /// Puts missing numbers at the end, as long as there is room for a whole
+    /// one, and other bytes behind them.
+    pub fn fill_missing(&mut self, rng: &mut Rng, length: usize) {
+        (0..length / 8).for_each(|_| self.bytes.extend(missing(rng).to_le_bytes()));
+        self.fill(rng, length % 8);
+    }
+
     /// Fills up to this size.
     pub fn fill_to(&mut self, rng: &mut Rng, size: usize) {
         self.fill(rng, size.saturating_sub(self.bytes.len()));
@@ -134,6 +141,14 @@ impl Orchard {
         Orchard { volume: bytes_of(volume.numbers()), boxes: boxes.iter().map(|b| bytes_of(b)).collect() }
     }
 
+    /// With as many boxes as there can be, and no number missing.
+    fn drawn(rng: &mut Rng) -> Orchard {
+        let (mut volume, mut boxes) = volume_and_boxes(rng, BOXES);
+        mend(rng, volume.numbers_mut());
+        boxes.iter_mut().for_each(|b| mend(rng, b));
+        Orchard::new((volume, boxes))
+    }
+
     /// The file of all records in their order, with gaps of these lengths:
     /// before each section, and at the end.
     pub fn file(&self, rng: &mut Rng, gap: impl Fn(usize) -> usize) -> FarmFile {
@@ -154,7 +169,7 @@ impl Orchard {
 
 /// Orchards that most files are made of.
 static ORCHARDS: LazyLock<Vec<Orchard>> =
-    LazyLock::new(|| (0..256).map(|case| Orchard::new(volume_and_boxes(&mut Rng::at(0, case), BOXES))).collect());
+    LazyLock::new(|| (0..256).map(|case| Orchard::drawn(&mut Rng::at(0, case))).collect());
 
 /// How many boxes a file has: few, any number, as many as there can be;
 /// seldom one too many or none.
@@ -177,6 +192,12 @@ pub(super) fn gap(rng: &mut Rng) -> usize {
         6 => BOX,
         _ => 1 + rng.below(300) as usize,
     }
+}
+
+/// Puts a gap at the end, of any bytes or of missing numbers.
+fn put_gap(rng: &mut Rng, file: &mut FarmFile) {
+    let length = gap(rng);
+    if rng.once_in(2) { file.fill(rng, length) } else { file.fill_missing(rng, length) }
 }
 
 /// A length that a section may have by mistake.
@@ -225,7 +246,7 @@ fn other_volume(rng: &mut Rng, file: &mut FarmFile) {
 /// file. One in `of_lengths` has sections of other lengths than their
 /// records.
 pub(super) fn laid(rng: &mut Rng, file: &mut FarmFile, of_lengths: u64) {
-    let fresh = rng.once_in(32).then(|| Orchard::new(volume_and_boxes(rng, BOXES)));
+    let fresh = rng.once_in(32).then(|| Orchard::drawn(rng));
     let orchard = fresh.as_ref().unwrap_or(&ORCHARDS[rng.below(ORCHARDS.len() as u64) as usize]);
     let boxes = boxes(rng);
     // Out of 8, how often there is a gap.
@@ -235,15 +256,16 @@ pub(super) fn laid(rng: &mut Rng, file: &mut FarmFile, of_lengths: u64) {
     file.begin(1 + boxes);
     for i in 0..=boxes {
         if rng.below(8) < gaps {
-            let length = gap(rng);
-            file.fill(rng, length);
+            put_gap(rng, file);
         }
         let place = if i == 0 { 0 } else { 1 + rng.below(BOXES as u64) as usize };
         file.put(i, orchard.record(place));
         if rng.once_in(12) {
             // Any number but the count of planes and the flag.
             let (first, numbers) = if i == 0 { (1, file.length(0) / 8 - 1) } else { (0, 22) };
-            file.set_number(i, first + rng.below(numbers.into()) as usize, odd(rng));
+            let mut x = [odd(rng)];
+            mend(rng, &mut x);
+            file.set_number(i, first + rng.below(numbers.into()) as usize, x[0]);
         }
         if i == 0 && rng.once_in(32) {
             other_volume(rng, file);
@@ -257,8 +279,7 @@ pub(super) fn laid(rng: &mut Rng, file: &mut FarmFile, of_lengths: u64) {
         }
     }
     if rng.below(8) < gaps {
-        let length = gap(rng);
-        file.fill(rng, length);
+        put_gap(rng, file);
     }
     if rng.once_in(1024) {
         let size = LARGEST - 1 + rng.below(3) as usize;
@@ -266,11 +287,13 @@ pub(super) fn laid(rng: &mut Rng, file: &mut FarmFile, of_lengths: u64) {
     }
 }
 
-/// A well-formed file of this many boxes, with a gap of up to 20 bytes before
-/// every section and at the end, or with none.
+/// A well-formed file of this many boxes, no number of which is missing, with a
+/// gap of up to 20 bytes before every section and at the end, or with none.
 pub fn well_formed(rng: &mut Rng, boxes: usize, gaps: bool) -> FarmFile {
-    let (volume, mut records) = volume_and_boxes(rng, boxes);
+    let (mut volume, mut records) = volume_and_boxes(rng, boxes);
     records.iter_mut().for_each(|record| record[FLAG / 8] = rng.pick(&[0.0, -0.0, 1.0]));
+    mend(rng, volume.numbers_mut());
+    records.iter_mut().for_each(|record| mend(rng, record));
     let most = if gaps { 20 } else { 0 };
     let lengths: Vec<usize> = (0..boxes + 2).map(|_| rng.below(most + 1) as usize).collect();
     Orchard::new((volume, records)).file(rng, |i| lengths[i])

@@ -2,7 +2,7 @@
 //! it, or 0.
 
 use super::*;
-use crate::judge::{NO_COUNT, NO_FARM_FILE, NO_SUCH_VALUE, WRONG_INPUT, WRONG_SECTION};
+use crate::judge::{MISSING_NUMBER, NO_COUNT, NO_FARM_FILE, NO_SUCH_VALUE, WRONG_INPUT, WRONG_SECTION};
 use crate::reader::{self, BOX, BOXES, LARGEST, LEAST_VOLUME, volume_bytes};
 use crate::rust;
 
@@ -88,6 +88,7 @@ pub fn notable_files() -> Vec<NotableFile> {
     planes(&mut list);
     flags(&mut list);
     several(&mut list);
+    missing_numbers(&mut list);
     list.0
 }
 
@@ -123,12 +124,11 @@ fn good(list: &mut List) {
     for (case, &boxes) in few.iter().chain(&many).enumerate() {
         list.add(0, format!("{boxes} drawn boxes"), of_both_verdicts(case as u64, boxes, case % 3 != 0));
     }
-    let nan = f64::NAN;
-    let far = f64::INFINITY;
-    for (number, x) in [(0, nan), (3, -0.0), (5, far), (6, nan), (6, 0.0), (11, 1e200), (18, -far), (21, 0.0)] {
+    // As large as can be, and as small.
+    for (number, x) in [(0, f64::MIN), (3, -0.0), (5, f64::MAX), (6, 0.0), (11, 1e200), (18, f64::MIN), (21, 5e-324)] {
         list.edited(0, "a box with a seldom number", plain(3), |file| file.set_number(2, number, x));
     }
-    for (number, x) in [(1, nan), (4, far), (8, -far), (4, -0.0), (25, nan), (48, far)] {
+    for (number, x) in [(1, f64::MAX), (4, -0.0), (8, f64::MIN), (25, f64::MAX), (48, 5e-324)] {
         list.edited(0, "a volume with a seldom number", plain(3), |file| file.set_number(0, number, x));
     }
     for (flag, box_of) in [(0.0, 1), (-0.0, 2), (1.0, 3)] {
@@ -299,10 +299,6 @@ fn planes(list: &mut List) {
     }
     let walled_rays = Volume::new(&CUBE[..24].as_chunks().0.repeat(2)[..7], &[-1.0; 24]);
     list.add(0, "rays that would be walls", viewed(walled_rays, 4));
-    list.edited(0, "a ray that is not a number", viewed(with_planes(CUBE, MOST_PLANES), 1), |file| {
-        let behind = 1 + 4 * MOST_PLANES;
-        (file.set_number(0, behind, f64::NAN), file.set_number(0, behind + 23, f64::NAN));
-    });
     // A count that is none, and one of another length.
     for count in COUNTS {
         let refusal = match count {
@@ -456,6 +452,106 @@ fn several(list: &mut List) {
     });
 }
 
+/// Missing numbers: at places that a verdict would not look at too, and with
+/// what is refused before them.
+fn missing_numbers(list: &mut List) {
+    let ways = || MISSING.into_iter().cycle();
+    let volume = |planes: usize| viewed(with_planes(CUBE, planes), 2);
+    // The first six planes, screens, rays.
+    let (seven, most) = (1 + 4 * 7, 1 + 4 * MOST_PLANES);
+    for (number, x) in [1, 4, 8, 23, 24, 25, 27, 28, seven, seven + 5, seven + 6, seven + 23].into_iter().zip(ways()) {
+        list.edited(MISSING_NUMBER, "missing in a volume of 7 planes", volume(7), |file| file.set_number(0, number, x));
+    }
+    for (number, x) in [1, 25, most - 4, most - 1, most, most + 12, most + 23].into_iter().zip(ways()) {
+        list.edited(MISSING_NUMBER, "missing in a volume of the most planes", volume(MOST_PLANES), |file| {
+            file.set_number(0, number, x);
+        });
+    }
+    // The range and the matrix, of any box.
+    for (number, x) in [0, 2, 3, 5, 6, 9, 13, 18, 20, 21].into_iter().zip(ways()) {
+        let i = 1 + number % 3;
+        list.edited(MISSING_NUMBER, "missing in a box", gapped(3), |file| file.set_number(i, number, x));
+    }
+    let far = f64::INFINITY;
+    for (i, x) in [(BOXES / 2, far), (BOXES, f64::NAN)] {
+        list.edited(MISSING_NUMBER, "missing in one of 63 boxes", plain(BOXES), |file| file.set_number(i, 7, x));
+    }
+    // An empty range, and a matrix without inverse: nothing looks at the matrix.
+    for (number, x) in [(1, -far), (6, f64::NAN), (21, far)] {
+        list.edited(MISSING_NUMBER, "missing in a box with an empty range", plain(2), |file| {
+            (file.set_number(2, 3, -99.0), file.set_number(2, number, x));
+        });
+        list.edited(MISSING_NUMBER, "missing in a box without inverse", plain(2), |file| {
+            (6..22).for_each(|i| file.set_number(1, i, 0.0));
+            file.set_number(1, number, x);
+        });
+    }
+    list.edited(MISSING_NUMBER, "nothing is there", plain(2), |file| {
+        (1..49).for_each(|number| file.set_number(0, number, f64::NAN));
+        (0..22).for_each(|number| (1..3).for_each(|i| file.set_number(i, number, f64::NAN)));
+    });
+    // What is refused before: a flag of any box, a count, a length, a place.
+    for (i, flag, of, number) in
+        [(1, 2.0, 0, 1), (2, f64::NAN, 0, 48), (3, far, 1, 0), (2, 0.5, 2, 21), (1, -far, 3, 4)]
+    {
+        list.edited(NO_SUCH_VALUE, &format!("a wrong flag in {i}, missing in {of}"), plain(3), |file| {
+            (file.set_number(of, number, -far), file.set_flag(i, flag));
+        });
+    }
+    for count in [5.0, f64::NAN, far] {
+        list.edited(NO_COUNT, "no count, and missing", viewed(Volume::of(CUBE).counted(count), 1), |file| {
+            (file.set_number(0, 7, f64::NAN), file.set_number(1, 6, f64::NAN));
+        });
+    }
+    for others in [[(0, 400)], [(2, 185)], [(0, 391)]] {
+        list.edited(WRONG_SECTION, "a wrong length, and missing", of_lengths(2, &others), |file| {
+            (file.set_number(0, 7, far), file.set_number(1, 6, f64::NAN));
+        });
+    }
+    list.edited(NO_FARM_FILE, "an overlap, and missing", plain(3), |file| {
+        (file.set_number(0, 7, far), file.set_number(1, 6, f64::NAN));
+        file.set_offset(3, file.offset(3) - 1);
+    });
+    // Gaps are unread: before the volume, before a box, at the end.
+    for place in 0..4 {
+        let mut file = FarmFile::default();
+        let rng = &mut Rng::at(0, 7);
+        file.begin(3);
+        for i in 0..4 {
+            if i == place {
+                file.fill_missing(rng, BOX);
+            }
+            match i {
+                0 => file.put(0, &bytes_of(Volume::of(CUBE).numbers())),
+                3 => {}
+                _ => file.put(i, &bytes_of(&block(2 * i))),
+            }
+        }
+        list.add(0, format!("a gap of missing numbers at place {place}"), file);
+    }
+}
+
+/// Small files of which each number is missing in each way, and each box by
+/// itself: of seven planes, of an empty range, with a wrong flag.
+pub fn struck_files() -> Vec<Vec<u8>> {
+    let mut bases = [viewed(with_planes(CUBE, 7), 1), gapped(2), plain(2), plain(2)];
+    bases[2].set_number(2, 3, -99.0);
+    bases[3].set_flag(1, 0.5);
+    let mut all = vec![];
+    for base in bases {
+        for i in 0..base.pairs() {
+            for number in 0..base.length(i) as usize / 8 {
+                all.extend(MISSING.map(|x| {
+                    let mut file = base.clone();
+                    file.set_number(i, number, x);
+                    file.bytes
+                }));
+            }
+        }
+    }
+    all
+}
+
 /// Files at the largest size, which are always tried and not recorded.
 pub fn large_files() -> Vec<Vec<u8>> {
     let rng = &mut Rng::at(0, 6);
@@ -465,7 +561,7 @@ pub fn large_files() -> Vec<Vec<u8>> {
         let found = notable.iter().find(|file| file.refusal == refusal && file.bytes.len() > 500);
         FarmFile { bytes: found.expect("one of each").bytes.clone() }
     };
-    for refusal in [0, NO_FARM_FILE, WRONG_SECTION, NO_COUNT, NO_SUCH_VALUE] {
+    for refusal in [0, NO_FARM_FILE, WRONG_SECTION, NO_COUNT, NO_SUCH_VALUE, MISSING_NUMBER] {
         for size in [LARGEST - 1, LARGEST, LARGEST + 1, LARGEST + 2, 2 * LARGEST, 2 * LARGEST + 1] {
             let mut file = first_of(refusal);
             file.fill_to(rng, size);

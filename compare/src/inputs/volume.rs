@@ -55,6 +55,10 @@ impl Volume {
     pub fn numbers(&self) -> &[f64] {
         &self.numbers[..self.len]
     }
+
+    pub fn numbers_mut(&mut self) -> &mut [f64] {
+        &mut self.numbers[..self.len]
+    }
 }
 
 /// The most planes, as a volume states them.

@@ -1,14 +1,18 @@
 //! Verdicts on what is in a volume.
 
+#[cfg(test)]
+mod slips;
+
+use crate::call::Call;
 use crate::exported::{call, of_archive};
 use crate::inputs::{self, Boxed, CUBE, IDENTITY, Matrix, Point, Range, Six, Volume, box_of, diagonal, with};
-use crate::judge::{FEWEST_PLANES, MOST_PLANES};
+use crate::judge::{FEWEST_PLANES, MOST_PLANES, finite};
 use crate::op::Op;
 use crate::rust::{ask, boxed, boxed_without_inverse, count_by_length, held, matrix, planes, point, rays};
 use openusd::gf;
 
 pub fn all() -> Vec<Box<dyn Op>> {
-    vec![of_point(), of_segment(), of_triangle(), of_box(), of_view_volume()]
+    vec![of_point().op(), of_segment().op(), of_triangle().op(), of_box().op(), of_view_volume().op()]
 }
 
 const NAN: f64 = f64::NAN;
@@ -32,6 +36,13 @@ fn odd_counts() -> impl Iterator<Item = Volume> {
 
 const UNIT: Range = [0.0, 0.0, 0.0, 1.0, 1.0, 1.0];
 
+/// Volumes of which each number is to be missing in turn: six planes, screens,
+/// no count, another length.
+fn struck_volumes() -> [Volume; 5] {
+    let [no_count, other_length, six] = mended();
+    [six, inputs::with_planes(CUBE, 7), inputs::with_planes(CUBE, MOST_PLANES), no_count, other_length]
+}
+
 /// A volume with no count and another length than any; then with a count, and
 /// then with its length.
 fn mended() -> [Volume; 3] {
@@ -48,7 +59,13 @@ fn timed_point(rng: &mut inputs::Rng, count: usize) -> (Volume, Point) {
     (inputs::with_planes(six, count), p)
 }
 
-fn of_point() -> Box<dyn Op> {
+/// Finite numbers by which an operation overflows: here two products, whose sum
+/// is then a NaN. Each has its verdict, which is not the exact one.
+fn overflowing_point() -> (Six, Point, bool) {
+    (with(CUBE, &[(0, 1e308), (1, -1e308)]), [10.0, 10.0, 5.0], false)
+}
+
+fn of_point() -> Call<(Volume, Point)> {
     let points: [Point; 19] = [
         // Two of the marked verdicts.
         [0.0, 0.0, 0.0],
@@ -65,7 +82,7 @@ fn of_point() -> Box<dyn Op> {
         [-5e-324, 5.0, 5.0],
         [-0.0, 5.0, 5.0],
         [5.0, 5.0, 5.0],
-        // What is not finite fails planes of other axes too.
+        // Missing.
         [NAN, 5.0, 5.0],
         [5.0, 5.0, NAN],
         [FAR, 5.0, 5.0],
@@ -79,16 +96,35 @@ fn of_point() -> Box<dyn Op> {
     let screened = points.map(|p| (inputs::with_planes(CUBE, MOST_PLANES), p));
     let more =
         [(short[0], [0.5; 3]), ([0.0; 48], [1.0; 3]), ([NAN; 48], [1.0; 3]), (with(CUBE, &[(3, NAN)]), [5.0; 3])];
+    let (overflows, far, _) = overflowing_point();
+    let more = more.into_iter().chain([(overflows, far)]);
+    let struck = struck_volumes().into_iter().flat_map(|volume| [[5.0; 3], [-1.0, 5.0, 5.0]].map(|p| (volume, p)));
     let six =
         call!(218 gf_intersects_point(volume: 49, p: 3) -> bool { Ok(planes(volume).intersects_point(point(p))) });
+    let six_tested = call!(218 gf_intersects_point(volume: 49, p: 3) -> bool {
+        (finite(volume)?, finite(p)?);
+        Ok(planes(volume).intersects_point(point(p)))
+    });
     let many = call!(218 gf_intersects_point(volume: Volume, p: 3) -> bool { Ok(point_seen(volume, count_by_length(volume), p)) });
-    call!(218 gf_intersects_point(volume: Volume, p: 3) -> bool { Ok(point_seen(volume, held(volume)?, p)) })
-        .fixed(fixed.chain(more).map(|(six, p)| (Volume::of(six), p)).chain(counts).chain(screened).collect())
-        .mended(mended().map(|volume| (volume, [5.0; 3])).into())
-        .drawn(|_, rng| inputs::volume_and_point(rng))
-        .timed_by("frustums", |_, rng| timed_point(rng, 6), six)
-        .timed_by("frustums, the most planes", |_, rng| timed_point(rng, MOST_PLANES), many)
-        .op()
+    let many_tested = call!(218 gf_intersects_point(volume: Volume, p: 3) -> bool {
+        (finite(volume)?, finite(p)?);
+        Ok(point_seen(volume, count_by_length(volume), p))
+    });
+    let mut mended_points = mended().map(|volume| (volume, [5.0, 5.0, NAN])).to_vec();
+    mended_points.push((Volume::of(CUBE), [5.0; 3]));
+    call!(218 gf_intersects_point(volume: Volume, p: 3) -> bool {
+        let count = held(volume)?;
+        (finite(volume)?, finite(p)?);
+        Ok(point_seen(volume, count, p))
+    })
+    .fixed(fixed.chain(more).map(|(six, p)| (Volume::of(six), p)).chain(counts).chain(screened).collect())
+    .mended(mended_points)
+    .missing(&struck.collect::<Vec<_>>())
+    .drawn(|_, rng| inputs::volume_and_point(rng))
+    .timed_by("frustums", |_, rng| timed_point(rng, 6), six)
+    .timed_by("frustums, both test", |_, rng| timed_point(rng, 6), six_tested)
+    .timed_by("frustums, the most planes", |_, rng| timed_point(rng, MOST_PLANES), many)
+    .timed_by("the most planes, both test", |_, rng| timed_point(rng, MOST_PLANES), many_tested)
 }
 
 pub(super) fn segment_seen(volume: &[f64], count: usize, p0: &Point, p1: &Point) -> bool {
@@ -101,7 +137,7 @@ fn timed_segment(rng: &mut inputs::Rng, count: usize) -> (Volume, Point, Point) 
     (inputs::with_planes(six, count), a, b)
 }
 
-fn of_segment() -> Box<dyn Op> {
+fn of_segment() -> Call<(Volume, Point, Point)> {
     let tiny = 2.0_f64.powi(-534);
     // Its distances differ by a number whose product with the way is 0.
     let underflow = with(CUBE, &[(0, 2.0_f64.powi(-540)), (3, 5e-324)]);
@@ -127,6 +163,7 @@ fn of_segment() -> Box<dyn Op> {
         // A crossing that is NaN is passed over: exactly, this is outside.
         ([-1.2e308, 20.0, 5.0], [1.3e308, -1e6, 5.0]),
         ([1.3e308, -1e6, 5.0], [-1.2e308, 20.0, 5.0]),
+        // Missing, and only far.
         ([NAN, 5.0, 5.0], [5.0, 5.0, 50.0]),
         ([-FAR, 5.0, 5.0], [FAR, 5.0, 5.0]),
         ([-1e200, 5.0, 5.0], [1e200, 5.0, 5.0]),
@@ -151,21 +188,38 @@ fn of_segment() -> Box<dyn Op> {
         more[count - 7] = [-1.0, -1.0, 0.0, -12.0];
         (Volume::with_more(CUBE, &more), [-2.0, 13.0, 5.0], [13.0, 4.0, 5.0])
     });
+    // An end in view, both ends outside, both behind one plane.
+    let lines = [([5.0; 3], [50.0, 5.0, 5.0]), ([-5.0, 5.0, 5.0], [15.0, 5.0, 5.0]), ([-1.0; 3], [-1.0, 10.0, 10.0])];
+    let struck = struck_volumes().into_iter().flat_map(|volume| lines.map(|(p0, p1)| (volume, p0, p1)));
+    let mut mended_lines = mended().map(|volume| (volume, [-5.0, 5.0, 5.0], [5.0, 5.0, FAR])).to_vec();
+    mended_lines.push((Volume::of(CUBE), [-5.0, 5.0, 5.0], [5.0; 3]));
     let by_six = call!(219 gf_intersects_segment(volume: 49, p0: 3, p1: 3) -> bool {
+        Ok(planes(volume).intersects_segment(point(p0), point(p1)))
+    });
+    let by_six_tested = call!(219 gf_intersects_segment(volume: 49, p0: 3, p1: 3) -> bool {
+        (finite(volume)?, finite(p0)?, finite(p1)?);
         Ok(planes(volume).intersects_segment(point(p0), point(p1)))
     });
     let by_many = call!(219 gf_intersects_segment(volume: Volume, p0: 3, p1: 3) -> bool {
         Ok(segment_seen(volume, count_by_length(volume), p0, p1))
     });
+    let by_many_tested = call!(219 gf_intersects_segment(volume: Volume, p0: 3, p1: 3) -> bool {
+        (finite(volume)?, finite(p0)?, finite(p1)?);
+        Ok(segment_seen(volume, count_by_length(volume), p0, p1))
+    });
     call!(219 gf_intersects_segment(volume: Volume, p0: 3, p1: 3) -> bool {
-        Ok(segment_seen(volume, held(volume)?, p0, p1))
+        let count = held(volume)?;
+        (finite(volume)?, finite(p0)?, finite(p1)?);
+        Ok(segment_seen(volume, count, p0, p1))
     })
     .fixed(six.map(|(six, a, b)| (Volume::of(six), a, b)).chain(counts).chain(sheds).collect())
-    .mended(mended().map(|volume| (volume, [-5.0, 5.0, 5.0], [5.0; 3])).into())
+    .mended(mended_lines)
+    .missing(&struck.collect::<Vec<_>>())
     .drawn(|_, rng| inputs::volume_and_segment(rng))
     .timed_by("frustums", |_, rng| timed_segment(rng, 6), by_six)
+    .timed_by("frustums, both test", |_, rng| timed_segment(rng, 6), by_six_tested)
     .timed_by("frustums, the most planes", |_, rng| timed_segment(rng, MOST_PLANES), by_many)
-    .op()
+    .timed_by("the most planes, both test", |_, rng| timed_segment(rng, MOST_PLANES), by_many_tested)
 }
 
 fn triangle_seen(volume: &[f64], count: usize, p0: &Point, p1: &Point, p2: &Point) -> bool {
@@ -177,7 +231,7 @@ fn timed_triangle(rng: &mut inputs::Rng, count: usize) -> (Volume, Point, Point,
     (inputs::with_planes(six, count), a, b, c)
 }
 
-fn of_triangle() -> Box<dyn Op> {
+fn of_triangle() -> Call<(Volume, Point, Point, Point)> {
     // The cube with all rays but some pointing away.
     let rays_at = |which: &[usize]| -> Six {
         let mut volume = CUBE;
@@ -220,25 +274,42 @@ fn of_triangle() -> Box<dyn Op> {
     let screened: Vec<(Volume, [Point; 3])> = hidden.iter().flat_map(|hide| fixed.iter().map(hide)).collect();
     let counts = odd_counts().map(|volume| (volume, [[5.0; 3]; 3]));
     let fixed = fixed.into_iter().map(|(six, triangle)| (Volume::of(six), triangle)).chain(screened).chain(counts);
+    // A corner in view; around it, so that rays are asked; all behind one plane.
+    let asked =
+        [[[5.0; 3], [50.0, 0.0, 0.0], [0.0, 50.0, 0.0]], around([5.0; 3]), [[-1.0; 3], [-1.0, 9.0, 0.0], [-2.0; 3]]];
+    let struck = struck_volumes().into_iter().flat_map(|volume| asked.map(|[a, b, c]| (volume, a, b, c)));
+    let mut mended_triangles = mended().map(|volume| (volume, [5.0; 3], [6.0; 3], [7.0, NAN, 7.0])).to_vec();
+    mended_triangles.push((Volume::of(CUBE), [5.0; 3], [6.0; 3], [7.0; 3]));
     let by_six = call!(220 gf_intersects_triangle(volume: 49, p0: 3, p1: 3, p2: 3) -> bool {
+        Ok(triangle_seen(volume, 6, p0, p1, p2))
+    });
+    let by_six_tested = call!(220 gf_intersects_triangle(volume: 49, p0: 3, p1: 3, p2: 3) -> bool {
+        (finite(volume)?, finite(p0)?, finite(p1)?, finite(p2)?);
         Ok(triangle_seen(volume, 6, p0, p1, p2))
     });
     let by_many = call!(220 gf_intersects_triangle(volume: Volume, p0: 3, p1: 3, p2: 3) -> bool {
         Ok(triangle_seen(volume, count_by_length(volume), p0, p1, p2))
     });
     call!(220 gf_intersects_triangle(volume: Volume, p0: 3, p1: 3, p2: 3) -> bool {
-        Ok(triangle_seen(volume, held(volume)?, p0, p1, p2))
+        let count = held(volume)?;
+        (finite(volume)?, finite(p0)?, finite(p1)?, finite(p2)?);
+        Ok(triangle_seen(volume, count, p0, p1, p2))
     })
     .fixed(fixed.map(|(volume, [a, b, c])| (volume, a, b, c)).collect())
-    .mended(mended().map(|volume| (volume, [5.0; 3], [6.0; 3], [7.0; 3])).into())
+    .mended(mended_triangles)
+    .missing(&struck.collect::<Vec<_>>())
     .drawn(|_, rng| inputs::volume_and_triangle(rng))
     .timed_by("frustums", |_, rng| timed_triangle(rng, 6), by_six)
+    .timed_by("frustums, both test", |_, rng| timed_triangle(rng, 6), by_six_tested)
     .timed_by("frustums, the most planes", |_, rng| timed_triangle(rng, MOST_PLANES), by_many)
-    .op()
 }
 
-fn box_seen(volume: &[f64], count: usize, b: &Boxed) -> Result<bool, u32> {
-    let b = boxed(b)?;
+fn box_seen(volume: &[f64], count: usize, b: &Boxed, tests: bool) -> Result<bool, u32> {
+    let record = b;
+    let b = boxed(record)?;
+    if tests {
+        (finite(volume)?, finite(record)?);
+    }
     Ok(ask(volume, count, |v| v.intersects_bbox(&b), |v| v.intersects_bbox(&b)))
 }
 
@@ -248,7 +319,15 @@ fn timed_box(rng: &mut inputs::Rng, count: usize) -> (Volume, Boxed) {
     (inputs::with_planes(six, count), box_of(inputs::ordinary_range(rng), placed, 0.0))
 }
 
-fn of_box() -> Box<dyn Op> {
+/// A matrix whose determinant is the difference of two products that overflow, a
+/// NaN, so that it counts as one without inverse, with its verdict, which is
+/// not the exact one.
+fn overflowing_box() -> (Six, Boxed, bool) {
+    let m = with(IDENTITY, &[(0, 2e200), (1, 1e200), (4, 1e200), (5, 1e200), (12, -50.0)]);
+    (CUBE, box_of(UNIT, m, 0.0), true)
+}
+
+fn of_box() -> Call<(Volume, Boxed)> {
     let turned = |x: f64| {
         let rows = [[0.0, 1.0, 0.0], [-1.0, 0.0, 0.0], [0.0, 0.0, 1.0]];
         inputs::placement_of(rows, [x, 0.0, 0.0])
@@ -280,7 +359,7 @@ fn of_box() -> Box<dyn Op> {
         // An infinite determinant is no reason to leave the matrix out.
         box_of([-20.0, -1.0, -1.0, -1.0, -1.0, -1.0], diagonal([1e200, 1e200, 1e200, 1.0]), 0.0),
         box_of([-5.0, -5.0, -5.0, 5.0, 5.0, 5.0], diagonal([1e200, 1e200, 1e200, 1.0]), 0.0),
-        // NaN is not empty.
+        // Missing, a flag too.
         unplaced([NAN, 0.0, 0.0, 1.0, 1.0, 1.0]),
         unplaced([NAN; 6]),
         box_of(UNIT, IDENTITY, 0.5),
@@ -291,13 +370,15 @@ fn of_box() -> Box<dyn Op> {
     let scaled = |by: f64| std::array::from_fn(|i| CUBE[i] * by);
     let placed = box_of([2.0, 0.0, 0.0, 3.0, 1.0, 1.0], diagonal([5.0, 0.5, 0.25, 1.0]), 1.0);
     let mut more: Vec<(Six, Boxed)> = [2.0, 1e-11, 1e-5, 1e-200].map(|by| (scaled(by), placed)).into();
-    // NaN is not empty, and no plane here looks at the least x.
+    // No plane here looks at the least x, which is missing.
     let upward = with(CUBE, &[(4, 1.0), (7, 0.0)]);
     more.extend([
         (upward, unplaced([NAN, 0.0, 0.0, 1.0, 1.0, 1.0])),
         (upward, unplaced([0.0, 0.0, 0.0, NAN, 1.0, 1.0])),
     ]);
     more.extend(inexact_boxes().map(|(six, b, _)| (six, b)));
+    let (six, b, _) = overflowing_box();
+    more.push((six, b));
     // A count that is none comes before a flag that is none.
     let counts = odd_counts().flat_map(|volume| [0.0, 0.5].map(|flag| (volume, box_of(UNIT, IDENTITY, flag))));
     // A wall at x = 6 as the last of 7 planes to the most.
@@ -306,8 +387,18 @@ fn of_box() -> Box<dyn Op> {
         more[count - 7] = [-1.0, 0.0, 0.0, -6.0];
         (Volume::with_more(CUBE, &more), unplaced([7.0, 0.0, 0.0, 9.0, 1.0, 1.0]))
     });
-    let mut mended_boxes = mended().map(|volume| (volume, box_of(UNIT, IDENTITY, 0.5))).to_vec();
-    mended_boxes.push((Volume::of(CUBE), unplaced(UNIT)));
+    let unmeasured = with(UNIT, &[(4, NAN)]);
+    let mut mended_boxes = mended().map(|volume| (volume, box_of(unmeasured, IDENTITY, 0.5))).to_vec();
+    mended_boxes.extend([unmeasured, UNIT].map(|range| (Volume::of(CUBE), unplaced(range))));
+    // In view; of an empty range; without inverse; with no flag; outside.
+    let asked = [
+        unplaced(UNIT),
+        unplaced([1.0, 0.0, 0.0, 0.0, 1.0, 1.0]),
+        box_of(UNIT, [0.0; 16], 1.0),
+        box_of(UNIT, IDENTITY, 0.5),
+        unplaced([-2.0, 0.0, 0.0, -1.0, 1.0, 1.0]),
+    ];
+    let struck = struck_volumes().into_iter().flat_map(|volume| asked.map(|b| (volume, b)));
     let fixed = boxes.map(|b| (CUBE, b)).into_iter().chain(more).map(|(six, b)| (Volume::of(six), b));
     let scaled_boxes = |_, rng: &mut inputs::Rng| {
         let (six, _, _, _, b) = inputs::asked(rng);
@@ -315,16 +406,22 @@ fn of_box() -> Box<dyn Op> {
     };
     let six =
         || call!(221 gf_intersects_bbox(volume: 49, b: 23) -> bool { Ok(planes(volume).intersects_bbox(&boxed(b)?)) });
-    let many =
-        call!(221 gf_intersects_bbox(volume: Volume, b: 23) -> bool { box_seen(volume, count_by_length(volume), b) });
-    call!(221 gf_intersects_bbox(volume: Volume, b: 23) -> bool { box_seen(volume, held(volume)?, b) })
+    let six_tested = call!(221 gf_intersects_bbox(volume: 49, b: 23) -> bool {
+        (finite(volume)?, finite(b)?);
+        Ok(planes(volume).intersects_bbox(&boxed(b)?))
+    });
+    let many = call!(221 gf_intersects_bbox(volume: Volume, b: 23) -> bool { box_seen(volume, count_by_length(volume), b, false) });
+    let many_tested = call!(221 gf_intersects_bbox(volume: Volume, b: 23) -> bool { box_seen(volume, count_by_length(volume), b, true) });
+    call!(221 gf_intersects_bbox(volume: Volume, b: 23) -> bool { box_seen(volume, held(volume)?, b, true) })
         .fixed(fixed.chain(counts).chain(walls).collect())
         .mended(mended_boxes)
+        .missing(&struck.collect::<Vec<_>>())
         .drawn(|_, rng| inputs::volume_and_box(rng))
         .timed_by("frustums, scaled boxes", scaled_boxes, six())
         .timed_by("frustums, rigid boxes", |_, rng| timed_box(rng, 6), six())
+        .timed_by("rigid boxes, both test", |_, rng| timed_box(rng, 6), six_tested)
         .timed_by("the most planes, rigid boxes", |_, rng| timed_box(rng, MOST_PLANES), many)
-        .op()
+        .timed_by("the most planes, both test", |_, rng| timed_box(rng, MOST_PLANES), many_tested)
 }
 
 /// Boxes of docs/DIFFERENCES.md, "Exact geometry", each with its verdict,
@@ -370,14 +467,28 @@ fn inexact_triangles() -> [(Six, [Point; 3], bool); 3] {
     ]
 }
 
-fn of_view_volume() -> Box<dyn Op> {
+/// A box of one point whose x in clip space is the sum of two products that
+/// overflow, a NaN, with its verdict, which is not the exact one.
+fn overflowing_clip() -> (Boxed, Matrix, bool) {
+    let m = with(IDENTITY, &[(0, 1e308), (4, -1e308)]);
+    (box_of([10.0, 10.0, 0.0, 10.0, 10.0, 0.0], IDENTITY, 0.0), m, false)
+}
+
+/// The verdict of the Rust in clip space.
+fn clip_seen(b: &Boxed, m: &Matrix) -> Result<bool, u32> {
+    Ok(gf::Frustum::intersects_view_volume(&boxed_without_inverse(b)?, matrix(m)))
+}
+
+fn of_view_volume() -> Call<(Boxed, Matrix)> {
     let perspective: Matrix = gf::ProjectionParams::matrix(
         &crate::rust::projection(&[0.0, -1.0, 1.0, -1.0, 1.0, 1.0, 10.0]).expect("a kind"),
     )
     .0;
     let unplaced = |r: Range| box_of(r, IDENTITY, 0.0);
     let moved = |x: f64| box_of(UNIT, with(IDENTITY, &[(14, x)]), 0.0);
+    let (far, overflows, _) = overflowing_clip();
     let fixed: Vec<(Boxed, Matrix)> = vec![
+        (far, overflows),
         // Strict: touching a side is outside.
         (unplaced(UNIT), IDENTITY),
         (unplaced([1.0, 0.0, 0.0, 2.0, 1.0, 1.0]), IDENTITY),
@@ -415,13 +526,30 @@ fn of_view_volume() -> Box<dyn Op> {
         (box_of(UNIT, IDENTITY, NAN), [NAN; 16]),
         (box_of(UNIT, IDENTITY, -0.0), IDENTITY),
     ];
+    let no_matrix = with(IDENTITY, &[(15, NAN)]);
+    let mended_boxes =
+        vec![(box_of(UNIT, IDENTITY, 0.5), no_matrix), (unplaced(UNIT), no_matrix), (unplaced(UNIT), IDENTITY)];
+    // In view; of an empty range; without inverse; with no flag; outside.
+    let struck = [
+        (unplaced(UNIT), IDENTITY),
+        (unplaced(inputs::EMPTY), IDENTITY),
+        (box_of(UNIT, [0.0; 16], 1.0), perspective),
+        (box_of(UNIT, IDENTITY, 0.5), IDENTITY),
+        (moved(5.0), perspective),
+    ];
+    let untested = call!(222 gf_intersects_view_volume(b: 23, m: 16) -> bool { clip_seen(b, m) });
+    let timed = |_, rng: &mut inputs::Rng| (inputs::ordinary_box(rng), perspective_view(rng));
     call!(222 gf_intersects_view_volume(b: 23, m: 16) -> bool {
-        Ok(gf::Frustum::intersects_view_volume(&boxed_without_inverse(b)?, matrix(m)))
+        let placed = boxed_without_inverse(b)?;
+        (finite(b)?, finite(m)?);
+        Ok(gf::Frustum::intersects_view_volume(&placed, matrix(m)))
     })
     .fixed(fixed)
+    .mended(mended_boxes)
+    .missing(&struck)
     .drawn(|_, rng| inputs::box_and_view(rng))
-    .timed("cameras", |_, rng| (inputs::ordinary_box(rng), perspective_view(rng)))
-    .op()
+    .timed_by("cameras", timed, untested)
+    .timed("cameras, both test", timed)
 }
 
 /// From the world into a camera's clip space.
@@ -440,13 +568,54 @@ mod tests {
     #[test]
     fn verdicts_that_are_not_exact() {
         for (six, b, verdict) in inexact_boxes() {
-            assert_eq!(box_seen(Volume::of(six).numbers(), 6, &b), Ok(verdict), "{b:?}");
+            assert_eq!(box_seen(Volume::of(six).numbers(), 6, &b, true), Ok(verdict), "{b:?}");
         }
         for (six, [p0, p1, p2], verdict) in inexact_triangles() {
             assert_eq!(triangle_seen(Volume::of(six).numbers(), 6, &p0, &p1, &p2), verdict, "{p0:?}");
         }
         let (slope, ..) = inexact_boxes()[2];
         assert!(point_seen(Volume::of(slope).numbers(), 6, &[0.0, 0.0, 3.0]));
+    }
+
+    /// Finite records by which NaN comes about, docs/DIFFERENCES.md, "Exact
+    /// geometry". They are fixed inputs too.
+    #[test]
+    fn verdicts_by_overflow() {
+        let (six, p, verdict) = overflowing_point();
+        assert_eq!(point_seen(Volume::of(six).numbers(), 6, &p), verdict);
+        let plane = crate::rust::plane(six.first_chunk().expect("a plane"));
+        assert!(plane.distance(point(&p)).is_nan());
+        let (six, b, verdict) = overflowing_box();
+        assert_eq!(box_seen(Volume::of(six).numbers(), 6, &b, true), Ok(verdict));
+        assert!(boxed(&b).expect("a flag").is_degenerate());
+        let (b, m, verdict) = overflowing_clip();
+        assert_eq!(clip_seen(&b, &m), Ok(verdict));
+    }
+
+    /// docs/DIFFERENCES.md, "Missing numbers": what the Rust answers, in its
+    /// order, where ours refuses with 13.
+    #[test]
+    fn what_the_rust_answers_to_missing_numbers() {
+        let of_point = |six: Six, p: Point| point_seen(Volume::of(six).numbers(), 6, &p);
+        assert!(!of_point(CUBE, [NAN, 5.0, 5.0]));
+        assert!(of_point(with(CUBE, &[(47, NAN)]), [5.0; 3]));
+        assert!(of_point(with(CUBE, &[(3, -FAR)]), [5.0; 3]));
+        let of_segment = |p0: Point, p1: Point| segment_seen(Volume::of(CUBE).numbers(), 6, &p0, &p1);
+        assert!(of_segment([5.0; 3], [NAN, 5.0, 5.0]));
+        assert!(!of_segment([-FAR, 5.0, 5.0], [FAR, 5.0, 5.0]));
+        let of_triangle = |six: Six, [a, b, c]: [Point; 3]| triangle_seen(Volume::of(six).numbers(), 6, &a, &b, &c);
+        assert!(of_triangle(CUBE, [[5.0; 3], [NAN; 3], [NAN; 3]]));
+        // A ray of the cube along z, from the origin, through a net around it.
+        let ray = with(CUBE, &[(29, 1.0)]);
+        let net = [[-30.0, -30.0, 5.0], [60.0, -30.0, 5.0], [-30.0, 60.0, 5.0]];
+        assert!(of_triangle(ray, net));
+        assert!(!of_triangle(with(ray, &[(24, NAN)]), net));
+        let of_box = |b: Boxed| box_seen(Volume::of(CUBE).numbers(), 6, &b, false);
+        assert_eq!(of_box(box_of(UNIT, [NAN; 16], 0.0)), Ok(true));
+        assert_eq!(of_box(box_of([1.0, 0.0, 0.0, 0.0, 1.0, 1.0], [NAN; 16], 0.0)), Ok(false));
+        assert_eq!(of_box(box_of([0.0, 0.0, 0.0, FAR, 1.0, 1.0], IDENTITY, 0.0)), Ok(false));
+        assert_eq!(clip_seen(&box_of([NAN, 0.0, 0.0, 0.5, 0.5, 0.5], IDENTITY, 0.0), &IDENTITY), Ok(true));
+        assert_eq!(clip_seen(&box_of(UNIT, IDENTITY, 0.0), &[NAN; 16]), Ok(false));
     }
 
     /// How many of 100,000 grid boxes get a no from an oblique segment plane,
@@ -475,7 +644,7 @@ mod tests {
             oblique.then(|| (farm_volume(&planes), given.record()))
         };
         let mut all = (0..).filter_map(drawn).take(100_000);
-        all.by_ref().filter(|(volume, b)| box_seen(volume.numbers(), 6, b) == Ok(false)).count()
+        all.by_ref().filter(|(volume, b)| box_seen(volume.numbers(), 6, b, true) == Ok(false)).count()
     }
 
     /// docs/VERDICTS.md, "What is not promised".
