@@ -1,5 +1,6 @@
 /* One orchard through the C library; orchard.rs does the same in Rust. `examples/run` builds and runs both. */
 #include "gf.h"
+#include <math.h>
 #include <stdio.h>
 #include <string.h>
 
@@ -97,6 +98,11 @@ int main(void)
     print_verdict("south block in view", status, yes);
     status = gf_intersects_bbox(view, 49, north, 23, &yes);
     print_verdict("north block, which touches, in view", status, yes);
+    /* The same from a survey that has no height for it. */
+    memcpy(part, north, sizeof north);
+    part[5] = NAN;
+    status = gf_intersects_bbox(view, 49, part, 23, &yes);
+    print_verdict("north block without its height", status, yes);
 
     status = gf_bbox_combine(south, 23, north, 23, both, 23);
     if (status == 0)

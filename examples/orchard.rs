@@ -117,6 +117,10 @@ fn main() -> Result<(), u32> {
     print_verdict("the same by six and a half planes", segment_in_view(&miscounted, &mast, &tree));
     print_verdict("south block in view", box_in_view(&view, &south));
     print_verdict("north block, which touches, in view", box_in_view(&view, &north));
+    // The same from a survey that has no height for it.
+    let mut unmeasured = north.clone();
+    unmeasured[5] = f64::NAN;
+    print_verdict("north block without its height", box_in_view(&view, &unmeasured));
     print_numbers("both blocks, least and greatest", combine(&south, &north).and_then(|both| aligned_range(&both)));
 
     // The whole orchard, with a packing shed, as one group; then north block and shed first, and their result with the south block.

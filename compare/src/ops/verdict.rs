@@ -470,7 +470,7 @@ fn inexact_triangles() -> [(Six, [Point; 3], bool); 3] {
 /// A box of one point whose x in clip space is the sum of two products that
 /// overflow, a NaN, with its verdict, which is not the exact one.
 fn overflowing_clip() -> (Boxed, Matrix, bool) {
-    let m = with(IDENTITY, &[(0, 1e308), (4, -1e308)]);
+    let m = with(IDENTITY, &[(0, 1e308), (4, -1e308), (15, 100.0)]);
     (box_of([10.0, 10.0, 0.0, 10.0, 10.0, 0.0], IDENTITY, 0.0), m, false)
 }
 
@@ -583,6 +583,8 @@ mod tests {
     fn verdicts_by_overflow() {
         let (six, p, verdict) = overflowing_point();
         assert_eq!(point_seen(Volume::of(six).numbers(), 6, &p), verdict);
+        // The same plane, and the same x, by numbers that do not overflow.
+        assert_eq!(point_seen(Volume::of(with(six, &[(0, 1.0), (1, -1.0)])).numbers(), 6, &p), !verdict);
         let plane = crate::rust::plane(six.first_chunk().expect("a plane"));
         assert!(plane.distance(point(&p)).is_nan());
         let (six, b, verdict) = overflowing_box();
@@ -590,6 +592,7 @@ mod tests {
         assert!(boxed(&b).expect("a flag").is_degenerate());
         let (b, m, verdict) = overflowing_clip();
         assert_eq!(clip_seen(&b, &m), Ok(verdict));
+        assert_eq!(clip_seen(&b, &with(m, &[(0, 1.0), (4, -1.0)])), Ok(!verdict));
     }
 
     /// docs/DIFFERENCES.md, "Missing numbers": what the Rust answers, in its
@@ -616,6 +619,17 @@ mod tests {
         assert_eq!(of_box(box_of([0.0, 0.0, 0.0, FAR, 1.0, 1.0], IDENTITY, 0.0)), Ok(false));
         assert_eq!(clip_seen(&box_of([NAN, 0.0, 0.0, 0.5, 0.5, 0.5], IDENTITY, 0.0), &IDENTITY), Ok(true));
         assert_eq!(clip_seen(&box_of(UNIT, IDENTITY, 0.0), &[NAN; 16]), Ok(false));
+    }
+
+    /// docs/VERDICTS.md, "A survey with missing numbers": least and greatest pass
+    /// over a NaN, so that the combined box holds none.
+    #[test]
+    fn a_combined_box_can_lose_a_missing_number() {
+        let [a, b] = [[NAN, 0.0, 0.0, 1.0, 1.0, 1.0], [2.0, 0.0, 0.0, 3.0, 1.0, 1.0]]
+            .map(|r: Range| boxed(&box_of(r, IDENTITY, 0.0)).expect("a flag"));
+        let kept = crate::rust::of_box(gf::BBox3d::combine(&a, &b));
+        assert_eq!(kept, box_of([2.0, 0.0, 0.0, 3.0, 1.0, 1.0], IDENTITY, 0.0));
+        assert_eq!(box_seen(Volume::of(CUBE).numbers(), 6, &kept, true), Ok(true));
     }
 
     /// How many of 100,000 grid boxes get a no from an oblique segment plane,
