@@ -105,7 +105,7 @@ mod tests {
     fn recorded_files_are_few_and_kept() {
         let (mut files, mut lines) = (vec![], vec![]);
         write_files(&mut files, &mut lines).expect("memory is written to");
-        assert!(files.len() < 450_000, "{} bytes", files.len());
+        assert!(files.len() < 500_000, "{} bytes", files.len());
         assert!(files == kept("crates/replay_farm/stdin") && lines == kept("crates/replay_farm/stdout"));
     }
 
