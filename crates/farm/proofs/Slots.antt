@@ -1,29 +1,39 @@
 -- The slots of boxes, filled one after the other; a box's numbers and verdict by its section. Assumes nothing.
 use mathlib.Core.Path.{_≡_, refl, sym, ap, subst, _∙_}
-use mathlib.Core.Bool.{Bool}
+use mathlib.Core.Bool.{Bool, true, false}
 use mathlib.Core.List.{List, [], _∷_, _++_, map, map-append}
 use Prim.Native.Nat.{ℕ, _+_, _*_, _/_, _<_, _≤_}
 use native.Mathlib.Omega.{arith}
-use lib.ListN.{length, length-map, replicate, set}
-use lib.Ieee.{Float}
+use mir.Val.{boolByte}
+use lib.ListN.{length, length-map, take, replicate, set}
+use lib.Ieee.{Float, binary64, ofBits}
 use Rattle.number.specs.Limits.{boxLength, fewestPlanes, mostPlanes}
-use Rattle.number.specs.Answer.{result}
+use Rattle.number.specs.Answer.{Outcome, result, has}
 use Rattle.number.specs.Slots.{unused, slotsOf}
 use Rattle.number.specs.Slice.{at}
 use Rattle.number.specs.Bytes.{numberAt, numbersAt, loaded}
 use Rattle.number.proofs.Filled.{none-filled, one-filled}
 use Rattle.number.proofs.Words.{as-many, number-at, all-there}
-use Rattle.verdict.specs.View.{volumeLength, planeCountOf, planesHeld}
-use Rattle.verdict.specs.FrustumCalls.{intersectsBoxCall}
+use Rattle.verdict.specs.View.{volumeLength, planeCountOf, planesHeld, planesOf}
+use Rattle.verdict.specs.Rows.{rowsLength, Loaded, planeInRows, planesInRows}
+use Rattle.verdict.specs.Frustum.{boxInView}
+use Rattle.verdict.specs.BBox.{boxOf}
+use Rattle.verdict.specs.declared.plane.Plane.{Plane}
 use Rattle.verdict.proofs.PlaneCount.{a-count, count-within}
 use Rattle.verdict.proofs.PlanesHeld.{all-held}
-use Rattle.verdict.proofs.VerdictCalls.{box-answered}
+use Rattle.verdict.proofs.ViewLists.{first-planes}
+use Rattle.verdict.proofs.SideBySide.{planes-held-in}
 use Rattle.farm.specs.declared.directory.Section.{Section}
 use Rattle.farm.specs.Directory.{sectionCount, sectionAt, sectionsFrom, volumeSection, endOf, numbersOf}
-use Rattle.farm.specs.FarmFile.{countNumber, planeCount, inView, slotCount, slotOf, slotFor, slots}
+use Rattle.farm.specs.FarmFile.{countNumber, planeCount, inView, slotCount, slotOf, slots}
 use Rattle.farm.specs.Steps.{Ready}
 use Rattle.farm.proofs.SectionsLeft.{as-many as as-many-sections, last-section}
-use Rattle.farm.proofs.Placed.{at-least, placed, volume-sized, box-sized, box-flagged, section-finite}
+use Rattle.farm.proofs.Placed.{at-least, placed, volume-sized, box-sized}
+
+-- a test as a number
+pub as-slot : (v : Bool) → boolByte v ≡ slotOf v
+as-slot true = refl
+as-slot false = refl
 
 pub none-answered : (n : ℕ) → n ≡ slotCount → replicate n unused ≡ slots []
 none-answered n e = none-filled slotCount n e
@@ -90,6 +100,13 @@ module _ (b : List ℕ) (r : Ready b) where
       all-there b (sec .offset) v (omega (arith, ends, size, e))
       ∙ ap (numbersAt b (sec .offset)) (e ∙ sym volume-numbers ∙ ap (λ (t : Section). t .size / 8) (sym q)) ∙ ap (numbersOf b) q
 
+  -- its planes, by what was loaded of as many numbers
+  pub planes-are : (n : ℕ) (v k : List Float) (o : Outcome ℕ) → v ≡ volume → n ≡ planeCount b → o ≡ planesHeld v
+      → (let l = replicate rowsLength (ofBits binary64 0) in Loaded o (has rowsLength l) v l k) → take n (planesInRows k mostPlanes) ≡ planesOf volume (planeCount b)
+  planes-are n v k o e q p h =
+      first-planes (planeInRows k) mostPlanes n (omega (arith, q, within)) ∙ planes-held-in n v k o (ap result q ∙ held ∙ ap planesHeld (sym e) ∙ sym p) h
+      ∙ (λ t. planesOf (e t) (q t))
+
   module _ (i : ℕ) (h : i + 1 < sectionCount b) (sec : Section) (q : sec ≡ sectionAt b (i + 1)) where
     size-is : sec .size ≡ 8 * boxLength
     size-is = ap (λ (t : Section). t .size) q ∙ box-sized b (r .sizes) (i + 1) (omega arith) h
@@ -102,12 +119,7 @@ module _ (b : List ℕ) (r : Ready b) where
         let e = subst (λ (t : Section). endOf t ≤ length b) (sym q) (placed b (r .formed) (i + 1) h .1) in
         omega (arith, e, size-is)
 
-    -- the slot of the box, by what `intersects_bbox` answers
-    pub slot-is : (v : List Float) (x : ℕ) → v ≡ volume → x ≡ slotFor (intersectsBoxCall v (numbersAt b (sec .offset) boxLength)) → x ≡ slotOf (inView b (sectionAt b (i + 1)))
-    slot-is v x e p =
-        let n = numbersOf b (sectionAt b (i + 1)) in
-        let size : length n ≡ boxLength = ap length (sym numbers-are) ∙ as-many b (sec .offset) boxLength in
-        p ∙ ap (λ (t : List Float). slotFor (intersectsBoxCall t (numbersAt b (sec .offset) boxLength))) e ∙ ap (λ (t : List Float). slotFor (intersectsBoxCall volume t)) numbers-are
-        ∙ ap slotFor
-        (box-answered volume (planeCount b) held (section-finite b (r .finite) 0 (omega arith)) n size (box-flagged b (r .flags) (i + 1) (omega arith) h)
-        (section-finite b (r .finite) (i + 1) h))
+    -- the slot of the box, by planes that are those of the volume
+    pub slot-is : (ps : List Plane) (x : ℕ) → ps ≡ planesOf volume (planeCount b) → x ≡ slotOf (boxInView ps (boxOf (numbersAt b (sec .offset) boxLength)))
+        → x ≡ slotOf (inView b (sectionAt b (i + 1)))
+    slot-is ps x e p = p ∙ (λ t. slotOf (boxInView (e t) (boxOf (numbers-are t))))

@@ -8,7 +8,7 @@ use lib.Ieee.{Float}
 use Rattle.number.specs.Limits.{boxLength, fewestPlanes, largestFile, mostSections}
 use Rattle.number.specs.Every.{every}
 use Rattle.number.specs.Bytes.{numberAt}
-use Rattle.number.specs.Slots.{unused, slotsOf}
+use Rattle.number.specs.Slots.{slotsOf}
 use Rattle.number.specs.Slice.{allFinite}
 use Rattle.number.specs.Answer.{Outcome, refused, result, unless}
 use Rattle.verdict.specs.BBox.{boxOf}
@@ -77,10 +77,6 @@ slotCount = mostSections - 1
 
 abbrev pub slotOf : Bool → ℕ
 slotOf v = cond v 1 0
-
-abbrev pub slotFor : Outcome Bool → ℕ
-slotFor (refused k) = unused
-slotFor (result v) = slotOf v
 
 abbrev pub slots : List Bool → List ℕ
 slots vs = slotsOf slotCount (map slotOf vs)

@@ -3,18 +3,18 @@ ghost use mathlib.Core.Path.{_≡_};
 ghost use mathlib.Core.Bool.{true};
 ghost use mathlib.Core.List.{map};
 ghost use Prim.Native.Nat.{_+_, _*_, _≤_};
-ghost use lib.ListN.{length};
+ghost use lib.ListN.{length, take};
 ghost use Rattle.number.specs.Limits.{boxLength, mostPlanes};
-ghost use Rattle.number.specs.Answer.{verdictOf};
 ghost use Rattle.number.specs.Bytes.{numbersAt};
 ghost use Rattle.number.specs.Slice.{allFinite};
-ghost use Rattle.verdict.specs.FrustumCalls.{intersectsBoxCall};
-ghost use Rattle.verdict.specs.View.{volumeLength};
+ghost use Rattle.verdict.specs.BBox.{boxOf};
+ghost use Rattle.verdict.specs.View.{volumeLength, planesOf};
+ghost use Rattle.verdict.specs.Rows.{planesInRows};
+ghost use Rattle.verdict.specs.Frustum.{boxInView};
 ghost use Rattle.farm.specs.Directory.{wellFormed, volumeSection, boxSections, numbersOf};
-ghost use Rattle.farm.specs.FarmFile.{volumeThere, countNumber, planeCount, sized, allFlagged, numbersFinite, inView, slotCount, slotFor, slots};
+ghost use Rattle.farm.specs.FarmFile.{volumeThere, countNumber, planeCount, sized, allFlagged, numbersFinite, inView, slotCount, slotOf, slots};
 ghost use Rattle.farm.specs.Steps.{Ready, countOrZero};
 use crate::directory::section_at;
-use number::answer::Verdict;
 use number::bytes::load;
 use number::bytes::number_at;
 use number::bytes::word_32;
@@ -22,10 +22,12 @@ use number::limits::BOX_LENGTH;
 use number::limits::FEWEST_PLANES;
 use number::limits::FLAG_PLACE;
 use number::order::is_finite;
-use number::slots::UNUSED;
 use number::slots::clear;
 use verdict::bbox::is_flag;
-use verdict::frustum_calls::intersects_bbox;
+use verdict::frustum::box_in_view;
+use verdict::rows;
+use verdict::rows::ROWS_LENGTH;
+use verdict::rows::Rows;
 use verdict::view::Held;
 use verdict::view::plane_count_of;
 use verdict::view::volume_length;
@@ -127,31 +129,20 @@ pub(crate) fn are_finite(file: &[u8]) -> bool
     true
 }
 
-// The slot of a verdict; none of a box that was refused.
-fn slot(verdict: Verdict) -> u32
-    ensures { λ r. ⌜ r ≡ slotFor (verdictOf verdict) ⌝ }
-{
-    match verdict {
-        Verdict::Yes => 1,
-        Verdict::No => 0,
-        Verdict::Refused(_) => UNUSED,
-    }
-}
-
-// The slot of the box that starts at a place.
-fn box_slot(volume: &[f64], file: &[u8], start: usize) -> u32
+// The slot of the box that starts at a place, by the first planes of the rows.
+fn box_slot(rows: &Rows, planes: u32, file: &[u8], start: usize) -> u32
     requires { ⌜ start + 8 * boxLength ≤ length (now file) ⌝ }
-    ensures { λ r. ⌜ r ≡ slotFor (intersectsBoxCall (now (volume .entry)) (numbersAt (now (file .entry)) start boxLength)) ⌝ }
+    ensures { λ r. ⌜ r ≡ slotOf (boxInView (take «planes» (planesInRows (now (rows .entry)) mostPlanes)) (boxOf (numbersAt (now (file .entry)) start boxLength))) ⌝ }
 {
     let mut numbers = [0.0f64; BOX_LENGTH];
     load(file, start, &mut numbers);
-    slot(intersects_bbox(volume, &numbers))
+    box_in_view(rows, planes, &numbers) as u32
 }
 
-// The slots of all boxes, by the numbers of the volume.
-fn box_slots(volume: &[f64], file: &[u8], out: &mut [u32])
+// The slots of all boxes, by the planes of the volume in rows.
+fn box_slots(rows: &Rows, planes: u32, file: &[u8], out: &mut [u32])
     requires { ⌜ Ready (now file) ⌝ }
-    requires { ⌜ (now volume ≡ numbersOf (now file) (volumeSection (now file))) × (length (now out) ≡ slotCount) ⌝ }
+    requires { ⌜ (take «planes» (planesInRows (now rows) mostPlanes) ≡ planesOf (numbersOf (now file) (volumeSection (now file))) (planeCount (now file))) × (length (now out) ≡ slotCount) ⌝ }
     ensures { λ _. ⌜ now (out .exit) ≡ slots (map (inView (now (file .entry))) (boxSections (now (file .entry)))) ⌝ }
 {
     clear(out);
@@ -159,9 +150,20 @@ fn box_slots(volume: &[f64], file: &[u8], out: &mut [u32])
     let mut i: usize = 0;
     while i < boxes {
         let start = section_at(file, i + 1).offset as usize;
-        out[i] = box_slot(volume, file, start);
+        out[i] = box_slot(rows, planes, file, start);
         i += 1;
     }
+}
+
+// The same by the numbers of the volume, which are loaded once.
+fn volume_slots(volume: &[f64], planes: u32, file: &[u8], out: &mut [u32])
+    requires { ⌜ Ready (now file) ⌝ }
+    requires { ⌜ (now volume ≡ numbersOf (now file) (volumeSection (now file))) × (planes ≡ planeCount (now file)) × (length (now out) ≡ slotCount) ⌝ }
+    ensures { λ _. ⌜ now (out .exit) ≡ slots (map (inView (now (file .entry))) (boxSections (now (file .entry)))) ⌝ }
+{
+    let mut rows = [0.0f64; ROWS_LENGTH];
+    rows::load(volume, &mut rows);
+    box_slots(&rows, planes, file, out);
 }
 
 // The slots of all boxes of a file with so many planes, by the volume's numbers in front of a room.
@@ -173,7 +175,7 @@ fn box_slots_in(room: &mut [f64], file: &[u8], planes: u32, out: &mut [u32])
     let size = volume_length(planes);
     let start = section_at(file, 0).offset as usize;
     load(file, start, &mut room[..size]);
-    box_slots(&room[..size], file, out);
+    volume_slots(&room[..size], planes, file, out);
 }
 
 // The slots of all boxes of a file with so many planes.

@@ -9,6 +9,7 @@ pub mod Between
 pub mod PlaneCount
 pub mod PlanesHeld
 pub mod ViewLists
+pub mod SideBySide
 pub mod PlanesLeft
 pub mod Constants
 pub mod ReachSum

@@ -76,7 +76,3 @@ held s n e = go (leb (volumeLength fewestPlanes) (length s)) (planeCountOf (at s
 
 pub has-planes : {s : List Float} {n : ℕ} → IsView s n → HasPlanes s n
 has-planes h = (h .most, omega (arith, h .numbers))
-
--- it has the original planes too
-pub has-original : {s : List Float} {n : ℕ} → IsView s n → HasPlanes s fewestPlanes
-has-original h = (omega arith, omega (arith, h .numbers, h .fewest))

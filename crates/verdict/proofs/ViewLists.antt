@@ -1,5 +1,5 @@
 -- The planes and the rays of a view, as they are read one after another, are the lists that the verdicts are defined over. Assumes nothing.
-use mathlib.Core.Path.{_≡_, refl, sym, ap, subst, _∙_}
+use mathlib.Core.Path.{_≡_, refl, sym, ap, ap₂, subst, _∙_}
 use mathlib.Core.List.{List, [], _∷_}
 use Prim.Native.Nat.{ℕ, zero, suc, _+_, _-_, _<_, _≤_}
 use native.Mathlib.Numerals.{add-one}
@@ -8,7 +8,7 @@ use lib.Ieee.{Float}
 use lib.ListN.{length, take, drop, length-drop, drop-of-length-le}
 use Rattle.verdict.specs.declared.plane.Plane.{Plane}
 use Rattle.verdict.specs.declared.ray.Ray.{Ray}
-use Rattle.verdict.specs.View.{rayCount, tabulate, planeAt, planesOf, rayAt, raysOf}
+use Rattle.verdict.specs.View.{rayCount, tabulate, rayAt, raysOf}
 
 -- ---- the values of a function below n
 
@@ -39,27 +39,33 @@ module _ {A : Type 0} where
   first f (suc k) (suc n) h = ap (λ (l : List A). f 0 ∷ l) (first (λ i. f (suc i)) k n (omega arith))
   first f (suc k) zero h = absurd (omega arith)
 
--- ---- the first n planes of a record
+  -- two functions that have the same values below n
+  pub same-values : (f g : ℕ → A) (n : ℕ) → ((i : ℕ) → i < n → f i ≡ g i) → tabulate f n ≡ tabulate g n
+  unfolding tabulate
+  same-values f g zero h = refl
+  same-values f g (suc n) h = ap₂ (λ (x : A) (l : List A). x ∷ l) (h 0 (omega arith)) (same-values (λ i. f (suc i)) (λ i. g (suc i)) n (λ i l. h (suc i) (omega arith)))
 
-module _ (s : List Float) (n : ℕ) where
-  pub plane-count : length (planesOf s n) ≡ n
-  plane-count = as-many (planeAt s) n
+-- ---- n planes, read by their places
 
-  pub next-plane : (i : ℕ) (p : Plane) → i < n → p ≡ planeAt s i → drop i (planesOf s n) ≡ p ∷ drop (i + 1) (planesOf s n)
-  next-plane i p h e = next (planeAt s) n i p h e
+module _ (f : ℕ → Plane) (n : ℕ) where
+  pub plane-count : length (tabulate f n) ≡ n
+  plane-count = as-many f n
+
+  pub next-plane : (i : ℕ) (p : Plane) → i < n → p ≡ f i → drop i (tabulate f n) ≡ p ∷ drop (i + 1) (tabulate f n)
+  next-plane i p h e = next f n i p h e
 
   -- the same from behind
-  pub plane-before : (i k : ℕ) (p : Plane) → i < n → k ≡ i + 1 → p ≡ planeAt s i → drop i (planesOf s n) ≡ p ∷ drop k (planesOf s n)
-  plane-before i k p h l e = next-plane i p h e ∙ ap (λ (j : ℕ). p ∷ drop j (planesOf s n)) (sym l)
+  pub plane-before : (i k : ℕ) (p : Plane) → i < n → k ≡ i + 1 → p ≡ f i → drop i (tabulate f n) ≡ p ∷ drop k (tabulate f n)
+  plane-before i k p h l e = next-plane i p h e ∙ ap (λ (j : ℕ). p ∷ drop j (tabulate f n)) (sym l)
 
-  pub left-count : (i : ℕ) → length (drop i (planesOf s n)) ≡ n - i
-  left-count i = length-drop i (planesOf s n) ∙ ap (λ (k : ℕ). k - i) plane-count
+  pub left-count : (i : ℕ) → length (drop i (tabulate f n)) ≡ n - i
+  left-count i = length-drop i (tabulate f n) ∙ ap (λ (k : ℕ). k - i) plane-count
 
-  pub no-plane : (i : ℕ) → i ≡ n → drop i (planesOf s n) ≡ []
-  no-plane i e = none (planeAt s) n i e
+  pub no-plane : (i : ℕ) → i ≡ n → drop i (tabulate f n) ≡ []
+  no-plane i e = none f n i e
 
-  pub first-planes : (k : ℕ) → k ≤ n → take k (planesOf s n) ≡ planesOf s k
-  first-planes k h = first (planeAt s) k n h
+  pub first-planes : (k : ℕ) → k ≤ n → take k (tabulate f n) ≡ tabulate f k
+  first-planes k h = first f k n h
 
 -- ---- the first k rays of a record of n planes
 

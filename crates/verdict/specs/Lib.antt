@@ -6,9 +6,11 @@ pub mod RayCalls
 pub mod BBox
 pub mod BBoxCalls
 pub mod View
+pub mod Rows
 pub mod Frustum
 pub mod FrustumCalls
 pub mod FiniteNumbers
+pub mod SideBySide
 pub mod Marked
 pub mod WorkedScreens
 pub mod Steps

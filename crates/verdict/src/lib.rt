@@ -11,5 +11,6 @@ pub mod ray;
 pub mod ray_calls;
 mod reach;
 mod record;
+pub mod rows;
 pub mod triangle;
 pub mod view;

@@ -57,8 +57,8 @@ slice-aggregate-load c =
     let given = start .args in
     sym (as-many (given .file .now) (start .pre .0) (given .room .now) (start .pre .1 .1) _ _ (start .pre .1 .0) (size .volume-length .ensures))
 
-slice-reshare-prefix-box-slots : tie.Need-slice-reshare-prefix-box-slots
-slice-reshare-prefix-box-slots c =
+slice-reshare-prefix-volume-slots : tie.Need-slice-reshare-prefix-volume-slots
+slice-reshare-prefix-volume-slots c =
     let filled = c .before .before in
     let at = filled .before .before .before in
     let size = at .before in
@@ -70,8 +70,8 @@ slice-reshare-prefix-box-slots c =
       fits (given .file .now) (start .pre .0) (given .room .now) (start .pre .1 .1) _ _ (start .pre .1 .0) (size .volume-length .ensures),
     )
 
-slice-aggregate-box-slots : tie.Need-slice-aggregate-box-slots
-slice-aggregate-box-slots c =
+slice-aggregate-volume-slots : tie.Need-slice-aggregate-volume-slots
+slice-aggregate-volume-slots c =
     let filled = c .before .before .before in
     let at = filled .before .before .before in
     let size = at .before in
@@ -79,8 +79,8 @@ slice-aggregate-box-slots c =
     let given = start .args in
     front-many (given .file .now) (start .pre .0) (given .room .now) (start .pre .1 .1) _ _ (start .pre .1 .0) (size .volume-length .ensures) _ (at .section-at .ensures) _ (filled .load .ensures)
 
-box-slots-requires : tie.Need-box-slots-requires
-box-slots-requires c κs =
+volume-slots-requires : tie.Need-volume-slots-requires
+volume-slots-requires c κs =
     let filled = c .before .before .before .before in
     let at = filled .before .before .before in
     let size = at .before in
@@ -89,6 +89,7 @@ box-slots-requires c κs =
       start .pre .0,
       (
         front (given .file .now) (start .pre .0) (given .room .now) (start .pre .1 .1) _ _ (start .pre .1 .0) (size .volume-length .ensures) _ (at .section-at .ensures) _ (filled .load .ensures),
+        start .pre .1 .0,
         start .pre .1 .2,
       ),
     )
@@ -112,9 +113,9 @@ box-slots-in-spec =
     slice-relend-prefix-load
     slice-aggregate-load
     (λ c κs. tt)
-    slice-reshare-prefix-box-slots
-    slice-aggregate-box-slots
-    box-slots-requires
+    slice-reshare-prefix-volume-slots
+    slice-aggregate-volume-slots
+    volume-slots-requires
     same-length
     (λ c. search needs)
-    (λ c. c .before .before .box-slots .ensures))
+    (λ c. c .before .before .volume-slots .ensures))

@@ -13,7 +13,7 @@ use Rattle.matrix.specs.Range.{isEmpty}
 use Rattle.verdict.specs.declared.plane.Plane.{Plane}
 use Rattle.verdict.specs.declared.bbox.BBox3d.{BBox3d}
 use Rattle.verdict.specs.Plane.{reachesPositiveSide, underInverseTranspose}
-use Rattle.verdict.specs.View.{planesOf}
+use Rattle.verdict.specs.Rows.{planeInRows, planesInRows}
 use Rattle.verdict.specs.Frustum.{boxInView, intoSpaceOf}
 use Rattle.verdict.proofs.ViewLists.{next-plane, no-plane}
 use Rattle.verdict.proofs.PlanesLeft.{fails, holds, all-hold}
@@ -33,10 +33,10 @@ module _ (ps : List Plane) (b : BBox3d) (z : Bool) (q : z ≡ isEmpty (b .range)
   a-range m e h = ap (λ (n : Mat4d). every (test n (b .range)) ps) h ∙ sym (ap (λ (t : Bool). not t && every (test (intoSpaceOf b) (b .range)) ps) (sym q ∙ e))
 
 abbrev Inv-loop : tie.InvT-loop
-Inv-loop view count range into about-origin i₀ i = (i ≤ count) × (every (test into range) (drop i (planesOf view count)) ≡ every (test into range) (planesOf view count))
+Inv-loop rows count range into about-origin i₀ i = (i ≤ count) × (every (test into range) (drop i (planesInRows rows count)) ≡ every (test into range) (planesInRows rows count))
 
 abbrev μ-loop : tie.MeasureT-loop
-μ-loop view count range into about-origin i₀ i = count - i
+μ-loop rows count range into about-origin i₀ i = count - i
 
 returns : tie.Need-returns Inv-loop μ-loop
 returns c = no-range _ _ _ (c .before .is-empty .ensures) (c .if1 .taken)
@@ -55,8 +55,8 @@ returns-2 c =
     let l = at-loop .loop in
     let into = at-loop .before .before in
     let some = into .before in
-    let g = some .before .before .before .before .args in
-    fails (test _ _) _ _ _ (next-plane (g .view .now) (g .count) (l .i) _ (omega arith) (at .plane-at .ensures)) _ (to .reaches-under .ensures) (c .if2 .taken)
+    let g = some .before .before .before .args in
+    fails (test _ _) _ _ _ (next-plane (planeInRows (g .rows .now)) (g .count) (l .i) _ (omega arith) (at .plane-in .ensures)) _ (to .reaches-under .ensures) (c .if2 .taken)
     ∙ l .inv .1 ∙ a-range _ _ _ (some .before .is-empty .ensures) _ (some .if1 .left) (into .into-space .ensures)
 
 add-i : tie.Need-add-i Inv-loop μ-loop
@@ -71,9 +71,9 @@ loop-again c =
     let at = to .before in
     let at-loop = at .before .before in
     let l = at-loop .loop in
-    let g = at-loop .before .before .before .before .before .before .before .args in (
+    let g = at-loop .before .before .before .before .before .before .args in (
       omega arith,
-      holds (test _ _) _ _ _ (next-plane (g .view .now) (g .count) (l .i) _ (omega arith) (at .plane-at .ensures)) _ (to .reaches-under .ensures) (c .if2 .left) ∙ l .inv .1,
+      holds (test _ _) _ _ _ (next-plane (planeInRows (g .rows .now)) (g .count) (l .i) _ (omega arith) (at .plane-in .ensures)) _ (to .reaches-under .ensures) (c .if2 .left) ∙ l .inv .1,
     )
 
 returns-3 : tie.Need-returns-3 Inv-loop μ-loop
@@ -82,8 +82,8 @@ returns-3 c =
     let l = at-loop .loop in
     let into = at-loop .before .before in
     let some = into .before in
-    let g = some .before .before .before .before .args in
-    all-hold (test _ _) _ (no-plane (g .view .now) (g .count) (l .i) (omega arith)) ∙ l .inv .1 ∙ a-range _ _ _ (some .before .is-empty .ensures) _ (some .if1 .left) (into .into-space .ensures)
+    let g = some .before .before .before .args in
+    all-hold (test _ _) _ (no-plane (planeInRows (g .rows .now)) (g .count) (l .i) (omega arith)) ∙ l .inv .1 ∙ a-range _ _ _ (some .before .is-empty .ensures) _ (some .if1 .left) (into .into-space .ensures)
 
 pub intersects-bbox-spec : {M : Type 1} → statement M
 intersects-bbox-spec =

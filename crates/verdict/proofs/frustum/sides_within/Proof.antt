@@ -5,7 +5,7 @@ use Prim.Native.Nat.{ℕ, _≤_}
 use native.Mathlib.Omega.{arith}
 use borrow.Author.Needs.{needs}
 use lib.ListN.{drop}
-use Rattle.verdict.specs.View.{planesOf}
+use Rattle.verdict.specs.Rows.{planeInRows, planesInRows}
 use Rattle.verdict.specs.Steps.Passes.{sidesOf}
 use Rattle.verdict.proofs.ViewLists.{plane-before, left-count, no-plane}
 use Rattle.verdict.proofs.Sides.{room, sides-next, no-sides}
@@ -13,47 +13,47 @@ use Rattle.verdict.proofs.frustum.sides_within.Statement.{statement}
 use Rattle.verdict.proofs.frustum.sides_within.Tie as tie
 
 abbrev Inv-loop : tie.InvT-loop
-Inv-loop view count p sides₀ i₀ sides i = (i ≤ count) × (sides ≡ sidesOf (drop i (planesOf view count)) p)
+Inv-loop rows count p sides₀ i₀ sides i = (i ≤ count) × (sides ≡ sidesOf (drop i (planesInRows rows count)) p)
 
 abbrev μ-loop : tie.MeasureT-loop
-μ-loop view count p sides₀ i₀ sides i = i
+μ-loop rows count p sides₀ i₀ sides i = i
 
 loop-holds : tie.Need-loop-holds Inv-loop μ-loop
-loop-holds c = let a = c .before .args in (omega arith, no-sides _ (a .p) (no-plane (a .view .now) (a .count) (a .count) refl))
+loop-holds c = let a = c .args in (omega arith, no-sides _ (a .p) (no-plane (planeInRows (a .rows .now)) (a .count) (a .count) refl))
 
 mul-sides : tie.Need-mul-sides Inv-loop μ-loop
 mul-sides c =
     let l = c .before .loop in
-    let s = c .before .before .before in
+    let s = c .before .before in
     let a = s .args in
-    let left = drop (l .i) (planesOf (a .view .now) (a .count)) in
-    omega (arith, room left (a .p) (l .sides) false (omega (arith, left-count (a .view .now) (a .count) (l .i), s .pre .0)) (l .inv .1))
+    let left = drop (l .i) (planesInRows (a .rows .now) (a .count)) in
+    omega (arith, room left (a .p) (l .sides) false (omega (arith, left-count (planeInRows (a .rows .now)) (a .count) (l .i), s .pre)) (l .inv .1))
 
 add-sides : tie.Need-add-sides Inv-loop μ-loop
 add-sides c =
     let at-loop = c .before .before .before in
     let l = at-loop .loop in
-    let s = at-loop .before .before in
+    let s = at-loop .before in
     let a = s .args in
-    let left = drop (l .i) (planesOf (a .view .now) (a .count)) in
-    omega (arith, room left (a .p) (l .sides) (c .on-positive-side .result) (omega (arith, left-count (a .view .now) (a .count) (l .i), s .pre .0)) (l .inv .1))
+    let left = drop (l .i) (planesInRows (a .rows .now) (a .count)) in
+    omega (arith, room left (a .p) (l .sides) (c .on-positive-side .result) (omega (arith, left-count (planeInRows (a .rows .now)) (a .count) (l .i), s .pre)) (l .inv .1))
 
 loop-again : tie.Need-loop-again Inv-loop μ-loop
 loop-again c =
     let at = c .before in
     let at-loop = at .before .before in
     let l = at-loop .loop in
-    let a = at-loop .before .before .args in (
+    let a = at-loop .before .args in (
       omega arith,
-      sides-next _ _ _ _ _ _ (plane-before (a .view .now) (a .count) _ (l .i) _ (omega arith) (omega arith) (at .plane-at .ensures)) (c .on-positive-side .ensures) (l .inv .1),
+      sides-next _ _ _ _ _ _ (plane-before (planeInRows (a .rows .now)) (a .count) _ (l .i) _ (omega arith) (omega arith) (at .plane-in .ensures)) (c .on-positive-side .ensures) (l .inv .1),
     )
 
 returns : tie.Need-returns Inv-loop μ-loop
 returns c =
     let l = c .before .loop in
-    let a = c .before .before .before .args in
+    let a = c .before .before .args in
     let e : l .i ≡ 0 = omega arith in
-    l .inv .1 ∙ ap (λ (i : ℕ). sidesOf (drop i (planesOf (a .view .now) (a .count))) (a .p)) e
+    l .inv .1 ∙ ap (λ (i : ℕ). sidesOf (drop i (planesInRows (a .rows .now) (a .count))) (a .p)) e
 
 pub sides-within-spec : {M : Type 1} → statement M
 sides-within-spec =

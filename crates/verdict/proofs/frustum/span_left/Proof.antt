@@ -8,7 +8,7 @@ use lib.ListN.{drop}
 use lib.Count.{trailingZeros}
 use lib.Ieee.{lt, ofBits, round, units, odd, size, span, climb}
 use Rattle.matrix.specs.Constants.{positiveZero, one}
-use Rattle.verdict.specs.View.{planesOf}
+use Rattle.verdict.specs.Rows.{planeInRows, planesInRows}
 use Rattle.verdict.specs.Frustum.{spanLeft}
 use Rattle.verdict.specs.Steps.Passes.{sidesOf}
 use Rattle.verdict.proofs.ViewLists.{next-plane, no-plane}
@@ -17,17 +17,17 @@ use Rattle.verdict.proofs.frustum.span_left.Statement.{statement}
 use Rattle.verdict.proofs.frustum.span_left.Tie as tie
 
 abbrev Inv-loop : tie.InvT-loop
-Inv-loop view count a a-sides b b-sides span₀ a-left₀ b-left₀ i₀ span a-left b-left i =
+Inv-loop rows count a a-sides b b-sides span₀ a-left₀ b-left₀ i₀ span a-left b-left i =
     (i ≤ count) × (lt (span .end) (span .start) ≡ false)
-    × (a-left ≡ sidesOf (drop i (planesOf view count)) a) × (b-left ≡ sidesOf (drop i (planesOf view count)) b)
-    × (spanLeft (drop i (planesOf view count)) a b (span .start) (span .end) ≡ spanLeft (planesOf view count) a b positiveZero one)
+    × (a-left ≡ sidesOf (drop i (planesInRows rows count)) a) × (b-left ≡ sidesOf (drop i (planesInRows rows count)) b)
+    × (spanLeft (drop i (planesInRows rows count)) a b (span .start) (span .end) ≡ spanLeft (planesInRows rows count) a b positiveZero one)
 
 abbrev μ-loop : tie.MeasureT-loop
-μ-loop view count a a-sides b b-sides span₀ a-left₀ b-left₀ i₀ span a-left b-left i = count - i
+μ-loop rows count a a-sides b b-sides span₀ a-left₀ b-left₀ i₀ span a-left b-left i = count - i
 
 loop-holds : tie.Need-loop-holds Inv-loop μ-loop
 unfolding ofBits round units odd size span climb trailingZeros lt
-loop-holds c = let s = c .before in (omega arith, refl, s .pre .1, s .pre .2, refl)
+loop-holds c = let s = c in (omega arith, refl, s .pre .1, s .pre .2, refl)
 
 returns : tie.Need-returns Inv-loop μ-loop
 returns c =
@@ -35,8 +35,8 @@ returns c =
     let at = after .before in
     let at-loop = at .before .before in
     let l = at-loop .loop in
-    let g = at-loop .before .before .args in
-    let next = next-plane (g .view .now) (g .count) (l .i) _ (omega arith) (at .plane-at .ensures) in
+    let g = at-loop .before .args in
+    let next = next-plane (planeInRows (g .rows .now)) (g .count) (l .i) _ (omega arith) (at .plane-in .ensures) in
     nothing-left _ _ _ next _ _ _ _ (l .inv .2) (l .inv .3) _ _ _ _ (l .inv .1) (after .cut .ensures .0) (after .cut .ensures .1) (c .if1 .taken) ∙ l .inv .4
 
 loop-again : tie.Need-loop-again Inv-loop μ-loop
@@ -45,8 +45,8 @@ loop-again c =
     let at = after .before in
     let at-loop = at .before .before in
     let l = at-loop .loop in
-    let g = at-loop .before .before .args in
-    let next = next-plane (g .view .now) (g .count) (l .i) _ (omega arith) (at .plane-at .ensures) in (
+    let g = at-loop .before .args in
+    let next = next-plane (planeInRows (g .rows .now)) (g .count) (l .i) _ (omega arith) (at .plane-in .ensures) in (
       omega arith,
       c .if1 .left,
       other-sides _ _ _ next _ _ (l .inv .2),
@@ -57,8 +57,8 @@ loop-again c =
 returns-2 : tie.Need-returns-2 Inv-loop μ-loop
 returns-2 c =
     let l = c .before .loop in
-    let g = c .before .before .before .args in
-    all-passed _ _ _ _ _ (no-plane (g .view .now) (g .count) (l .i) (omega arith)) ∙ l .inv .4
+    let g = c .before .before .args in
+    all-passed _ _ _ _ _ (no-plane (planeInRows (g .rows .now)) (g .count) (l .i) (omega arith)) ∙ l .inv .4
 
 pub span-left-spec : {M : Type 1} → statement M
 span-left-spec =

@@ -1,0 +1,150 @@
+-- Planes held in rows: those of a record that was gathered into them, one plane more, and what follows for the verdicts. Assumes nothing.
+use mathlib.Core.Path.{_≡_, refl, sym, ap, subst, _∙_}
+use mathlib.Core.Logic.{⊎-elim}
+use mathlib.Core.Bool.{Bool}
+use mathlib.Core.List.{List}
+use Prim.Native.Nat.{ℕ, zero, suc, _+_, _<_}
+use native.Mathlib.Nat.{eq-or-lt-of-le}
+use native.Mathlib.Omega.{arith}
+use borrow.Author.Tests.{eq-eqb, ne-eqb}
+use lib.ListN.{length, set, length-set, replicate, length-replicate}
+use lib.Seq.{getD-set-same, getD-set-other}
+use lib.Ieee.{Float, binary64, nan, ofBits}
+use Rattle.number.specs.Limits.{planeLength, mostPlanes}
+use Rattle.number.specs.Answer.{Outcome, result, has}
+use Rattle.number.specs.Slice.{at}
+use Rattle.verdict.specs.declared.plane.Plane.{Plane}
+use Rattle.verdict.specs.Plane.{plane}
+use Rattle.verdict.specs.View.{planeStart, planeAt, planesOf}
+use Rattle.verdict.specs.Rows.{rowsLength, rowPlace, InRows, Loaded, planeInRows, planesInRows}
+use Rattle.verdict.specs.Frustum.{pointInView, segmentInView, triangleInView, boxInView}
+use Rattle.verdict.specs.SideBySide.{PlanesEqual, OneAnswer, VerdictsAgree, BeyondUnread}
+use Rattle.verdict.proofs.ViewLists.{same-values}
+
+-- a number of the first row stands at the plane's own place
+pub first-row : (i : ℕ) → rowPlace 0 i ≡ i
+first-row i = omega arith
+
+-- ---- planes with the same numbers
+
+-- number j of a plane that f gives by its four
+abbrev numbered : (ℕ → Float) → Plane
+numbered f = plane (record { x = f 0; y = f 1; z = f 2 }) (f 3)
+
+same-plane : (f g : ℕ → Float) → ((j : ℕ) → j < planeLength → f j ≡ g j) → numbered f ≡ numbered g
+same-plane f g h =
+    let x = h 0 (omega arith) in
+    let y = h 1 (omega arith) in
+    let z = h 2 (omega arith) in
+    let d = h 3 (omega arith) in
+    λ t. plane (record { x = x t; y = y t; z = z t }) (d t)
+
+pub planes-equal : PlanesEqual
+planes-equal v l n i h below = same-plane (λ j. at l (rowPlace j i)) (λ j. at v (planeStart i + j)) (λ j. h i j below)
+
+pub same-planes : (v l : List Float) (n : ℕ) → InRows v n l → planesInRows l n ≡ planesOf v n
+same-planes v l n h = same-values (planeInRows l) (planeAt v) n (λ i below. planes-equal v l n i h below)
+
+-- ---- the verdicts
+
+one-answer : (ps qs : List Plane) → ps ≡ qs → OneAnswer ps qs
+one-answer ps qs e = record {
+  point = λ p. ap (λ (l : List Plane). pointInView l p) e;
+  segment = λ a b. ap (λ (l : List Plane). segmentInView l a b) e;
+  triangle = λ rs a b c. ap (λ (l : List Plane). triangleInView l rs a b c) e;
+  box = λ b. ap (λ (l : List Plane). boxInView l b) e;
+}
+
+pub verdicts-agree : VerdictsAgree
+verdicts-agree v l n h = one-answer (planesInRows l n) (planesOf v n) (same-planes v l n h)
+
+pub beyond-unread : BeyondUnread
+beyond-unread l k n h =
+    one-answer (planesInRows l n) (planesInRows k n)
+    (same-values (planeInRows l) (planeInRows k) n (λ i below. same-plane (λ j. at l (rowPlace j i)) (λ j. at k (rowPlace j i)) (λ j. h i j below)))
+
+-- ---- one plane more: its four numbers are stored, each in its row
+
+-- number j of a plane
+abbrev part : Plane → ℕ → Float
+part p zero = p .normal .x
+part p (suc zero) = p .normal .y
+part p (suc (suc zero)) = p .normal .z
+part p (suc (suc (suc j))) = p .distance
+
+part-at : (v : List Float) (i j : ℕ) → j < planeLength → part (planeAt v i) j ≡ at v (planeStart i + j)
+part-at v i zero h = refl
+part-at v i (suc zero) h = refl
+part-at v i (suc (suc zero)) h = refl
+part-at v i (suc (suc (suc zero))) h = refl
+part-at v i (suc (suc (suc (suc j)))) h = absurd (omega arith)
+
+module _ (l : List Float) (i : ℕ) (p : Plane) where
+  abbrev with-x : List Float
+  with-x = set l i (p .normal .x)
+
+  abbrev with-y : List Float
+  with-y = set with-x (rowPlace 1 i) (p .normal .y)
+
+  abbrev with-z : List Float
+  with-z = set with-y (rowPlace 2 i) (p .normal .z)
+
+  abbrev pub with-plane : List Float
+  with-plane = set with-z (rowPlace 3 i) (p .distance)
+
+  -- what stands elsewhere
+  kept : (q : ℕ) → ((j : ℕ) → j < planeLength → q ≡ rowPlace j i → ⊥) → at with-plane q ≡ at l q
+  kept q other =
+      getD-set-other with-z (rowPlace 3 i) q (p .distance) nan (other 3 (omega arith)) ∙ getD-set-other with-y (rowPlace 2 i) q (p .normal .z) nan (other 2 (omega arith))
+      ∙ getD-set-other with-x (rowPlace 1 i) q (p .normal .y) nan (other 1 (omega arith)) ∙ getD-set-other l i q (p .normal .x) nan (λ e. other 0 (omega arith) (omega (arith, e)))
+
+  module _ (room : length l ≡ rowsLength) (fits : i < mostPlanes) where
+    own : (j : ℕ) → j < planeLength → at with-plane (rowPlace j i) ≡ part p j
+    own zero h =
+        ap (at with-plane) (first-row i)
+        ∙ getD-set-other with-z (rowPlace 3 i) i (p .distance) nan (λ e. omega arith)
+        ∙ getD-set-other with-y (rowPlace 2 i) i (p .normal .z) nan (λ e. omega arith)
+        ∙ getD-set-other with-x (rowPlace 1 i) i (p .normal .y) nan (λ e. omega arith)
+        ∙ getD-set-same l i (p .normal .x) nan (omega arith)
+    own (suc zero) h =
+        getD-set-other with-z (rowPlace 3 i) (rowPlace 1 i) (p .distance) nan (λ e. omega arith)
+        ∙ getD-set-other with-y (rowPlace 2 i) (rowPlace 1 i) (p .normal .z) nan (λ e. omega arith)
+        ∙ getD-set-same with-x (rowPlace 1 i) (p .normal .y) nan (omega (arith, length-set l i (p .normal .x)))
+    own (suc (suc zero)) h =
+        getD-set-other with-z (rowPlace 3 i) (rowPlace 2 i) (p .distance) nan (λ e. omega arith)
+        ∙ getD-set-same with-y (rowPlace 2 i) (p .normal .z) nan (omega (arith, length-set l i (p .normal .x), length-set with-x (rowPlace 1 i) (p .normal .y)))
+    own (suc (suc (suc zero))) h =
+        getD-set-same with-z (rowPlace 3 i) (p .distance) nan
+        (omega (arith, length-set l i (p .normal .x), length-set with-x (rowPlace 1 i) (p .normal .y), length-set with-y (rowPlace 2 i) (p .normal .z)))
+    own (suc (suc (suc (suc j)))) h = absurd (omega arith)
+
+    pub one-more : (v : List Float) → InRows v i l → p ≡ planeAt v i → InRows v (i + 1) with-plane
+    one-more v h e k j below in-plane = ⊎-elim here before (eq-or-lt-of-le (omega arith))
+      where
+        here : k ≡ i → at with-plane (rowPlace j k) ≡ at v (planeStart k + j)
+        here same = subst (λ (n : ℕ). at with-plane (rowPlace j n) ≡ at v (planeStart n + j)) (sym same)
+            (own j in-plane ∙ ap (λ (q : Plane). part q j) e ∙ part-at v i j in-plane)
+
+        before : k < i → at with-plane (rowPlace j k) ≡ at v (planeStart k + j)
+        before less = kept (rowPlace j k) (λ m four same. omega arith) ∙ h k j less in-plane
+
+-- before the first plane
+pub nothing-held : (v l : List Float) → InRows v 0 l
+nothing-held v l i j h = absurd (omega arith)
+
+-- ---- what a record that holds n planes leaves
+
+module _ (n : ℕ) (v l : List Float) where
+  pub left-alone : (length l ≡ rowsLength → ⊥) → Loaded (result n) (has rowsLength l) v l l
+  left-alone e = subst (λ (room : Bool). Loaded (result n) room v l l) (sym (ne-eqb _ _ e)) refl
+
+  pub loaded : (k : List Float) → length l ≡ rowsLength → InRows v n k → Loaded (result n) (has rowsLength l) v l k
+  loaded k e h = subst (λ (room : Bool). Loaded (result n) room v l k) (sym (eq-eqb _ _ e)) h
+
+  in-rows : (k : List Float) (o : Outcome ℕ) → result n ≡ o → length l ≡ rowsLength → Loaded o (has rowsLength l) v l k → InRows v n k
+  in-rows k o e f h = subst (λ (p : Outcome ℕ × Bool). Loaded (p .0) (p .1) v l k) (λ t. (sym e t, eq-eqb _ _ f t)) h
+
+-- what is then read from rows that were all zeros before
+pub planes-held-in : (n : ℕ) (v k : List Float) (o : Outcome ℕ) → result n ≡ o
+    → (let l = replicate rowsLength (ofBits binary64 0) in Loaded o (has rowsLength l) v l k) → planesInRows k n ≡ planesOf v n
+planes-held-in n v k o e h = same-planes v k n (in-rows n v (replicate rowsLength (ofBits binary64 0)) k o e (length-replicate rowsLength (ofBits binary64 0)) h)
