@@ -7,7 +7,7 @@ use lib.Ieee.{Float}
 use Rattle.number.specs.Answer.{Reply, Outcome, Lone, answered, reply, statusOf, put, putVerdict, Found, putPlace}
 use Rattle.number.specs.declared.answer.Written.{Written}
 
-pub with-status : (n : ℕ) (a : Written) (out : List Float) (r : Reply Float) → n ≡ statusOf a → reply a out ≡ r → answered n out ≡ r
+pub with-status : {A : Type 0} (n : ℕ) (a : Written) (out : List A) (r : Reply A) → n ≡ statusOf a → reply a out ≡ r → answered n out ≡ r
 with-status n a out r e f = ap (λ (k : ℕ). answered k out) e ∙ f
 
 pub with-number : (x : Lone Float) (o call : Outcome Float) (before : Float) → x ≡ put o before → o ≡ call → x ≡ put call before

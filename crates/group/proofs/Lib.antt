@@ -1,6 +1,9 @@
 -- The laws that the proofs of this crate, and of the crates above it, cite.
 pub mod Written
 pub mod Records
+pub mod Slots
+pub mod BatchWays
 pub mod Spaces
 pub mod Ways
 pub mod Repeated
+pub mod EachCall

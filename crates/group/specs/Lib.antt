@@ -1,4 +1,5 @@
 -- What the contracts of this crate cite, and what a reader must believe.
 pub mod Group
 pub mod Repeated
+pub mod Batch
 pub mod Steps

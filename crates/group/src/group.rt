@@ -21,7 +21,7 @@ use verdict::bbox::preferred;
 pub const MOST_NUMBERS: usize = MOST_BOXES * BOX_LENGTH;
 
 // Record i of a group.
-fn record(boxes: &[f64], i: usize) -> &[f64]
+pub(crate) fn record(boxes: &[f64], i: usize) -> &[f64]
     requires { ⌜ i * boxLength + boxLength ≤ length (now boxes) ⌝ }
     ensures { λ r. ⌜ now r ≡ take boxLength (drop (i * boxLength) (now (boxes .entry))) ⌝ }
 {

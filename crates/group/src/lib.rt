@@ -1,3 +1,4 @@
-// Groups of boxes: several box records in one slice, combined into one box.
+// Several box records in one slice: combined into one box, or each asked of one view.
+pub mod batch;
 pub mod group;
 pub mod group_calls;
