@@ -57,6 +57,18 @@ static void print_numbers(const char *what, uint32_t status, const double *numbe
     printf("\n");
 }
 
+/* A verdict for each of several blocks. */
+static void print_slots(const char *what, uint32_t status, const uint32_t *slots, int count)
+{
+    printf("%s:", what);
+    if (status != 0)
+        printf(" refused %u", (unsigned)status);
+    else
+        for (int i = 0; i < count; i++)
+            printf(" %s", slots[i] ? "yes" : "no");
+    printf("\n");
+}
+
 /* A farm file of the view and the two blocks: the count, where each section begins and how many bytes it has, and the sections.
  * The numbers are copied as they lie in memory, low byte first. */
 static size_t make_farm_file(uint8_t *file)
@@ -109,10 +121,14 @@ int main(void)
         status = gf_bbox_aligned_range(both, 23, range, 6);
     print_numbers("both blocks, least and greatest", status, range, 6);
 
-    /* The whole orchard as one group; then north block and shed first, and their result with the south block. */
+    /* The whole orchard: which of it is in view; as one group; then north block and shed first, and their result with the south block. */
     memcpy(group, south, sizeof south);
     memcpy(group + 23, north, sizeof north);
     memcpy(group + 46, shed, sizeof shed);
+    status = gf_intersects_bboxes(view, 49, group, 69, slots, 3);
+    print_slots("south block, north block and shed in one call", status, slots, 3);
+    status = gf_intersects_bboxes(view, 49, group, 69, slots, 2);
+    print_slots("the same with a slot too few", status, slots, 2);
     status = gf_bbox_combine_group(group, 69, both, 23);
     if (status == 0)
         status = gf_bbox_aligned_range(both, 23, range, 6);

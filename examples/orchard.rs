@@ -5,6 +5,7 @@ extern "C" {
     fn gf_grid(p: *const f64, p_len: usize, out: *mut f64, out_len: usize) -> u32;
     fn gf_intersects_segment(v: *const f64, v_len: usize, a: *const f64, a_len: usize, b: *const f64, b_len: usize, out: *mut u32) -> u32;
     fn gf_intersects_bbox(v: *const f64, v_len: usize, b: *const f64, b_len: usize, out: *mut u32) -> u32;
+    fn gf_intersects_bboxes(v: *const f64, v_len: usize, boxes: *const f64, boxes_len: usize, out: *mut u32, out_len: usize) -> u32;
     fn gf_bbox_combine(a: *const f64, a_len: usize, b: *const f64, b_len: usize, out: *mut f64, out_len: usize) -> u32;
     fn gf_bbox_combine_group(boxes: *const f64, boxes_len: usize, out: *mut f64, out_len: usize) -> u32;
     fn gf_bbox_aligned_range(b: *const f64, b_len: usize, out: *mut f64, out_len: usize) -> u32;
@@ -32,6 +33,13 @@ fn segment_in_view(v: &[f64], a: &[f64], b: &[f64]) -> Result<u32, u32> {
 
 fn box_in_view(v: &[f64], b: &[f64]) -> Result<u32, u32> {
     answer(0, |out| unsafe { gf_intersects_bbox(v.as_ptr(), v.len(), b.as_ptr(), b.len(), out) })
+}
+
+/// The verdict on each of several boxes, by so many slots.
+fn boxes_in_view(v: &[f64], boxes: &[f64], slots: usize) -> Result<Vec<u32>, u32> {
+    answer(vec![0; slots], |out| unsafe {
+        gf_intersects_bboxes(v.as_ptr(), v.len(), boxes.as_ptr(), boxes.len(), out.as_mut_ptr(), out.len())
+    })
 }
 
 fn combine(a: &[f64], b: &[f64]) -> Result<[f64; 23], u32> {
@@ -84,6 +92,11 @@ fn print_verdict(what: &str, verdict: Result<u32, u32>) {
     }
 }
 
+fn print_slots(what: &str, slots: Result<Vec<u32>, u32>) {
+    let words = |slots: Vec<u32>| slots.iter().map(|&yes| if yes == 1 { "yes" } else { "no" }).collect::<Vec<_>>().join(" ");
+    println!("{what}: {}", slots.map_or_else(|refusal| format!("refused {refusal}"), words));
+}
+
 fn print_numbers<const N: usize>(what: &str, numbers: Result<[f64; N], u32>) {
     match numbers {
         Ok(n) => println!("{what}: {}", n.map(|x| format!("{x:.0}")).join(" ")),
@@ -123,8 +136,12 @@ fn main() -> Result<(), u32> {
     print_verdict("north block without its height", box_in_view(&view, &unmeasured));
     print_numbers("both blocks, least and greatest", combine(&south, &north).and_then(|both| aligned_range(&both)));
 
-    // The whole orchard, with a packing shed, as one group; then north block and shed first, and their result with the south block.
+    // The whole orchard, with a packing shed: which of it is in view; as one group; then north block and shed first, and their result
+    // with the south block.
     let shed = [&[5000.0, 100.0, 0.0, 5200.0, 300.0, 350.0][..], &upright[..], &[0.0]].concat();
+    let all = [&south[..], &north, &shed].concat();
+    print_slots("south block, north block and shed in one call", boxes_in_view(&view, &all, 3));
+    print_slots("the same with a slot too few", boxes_in_view(&view, &all, 2));
     let range_of = |boxes: &[&[f64]]| combine_group(&boxes.concat()).and_then(|group| aligned_range(&group));
     print_numbers("the orchard as one group", range_of(&[&south, &north, &shed]));
     let part = combine_group(&[&north[..], &shed[..]].concat())?;

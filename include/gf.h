@@ -18,8 +18,8 @@
  * What comes back. A function that can refuse returns a status: 0, or the number of its refusal.
  *
  *   0  done: the result is in `out`
- *   1  an input slice's length differs from its record; there is no range, or more than GF_MOST_RANGES
- *   2  the output slice's length differs from its record, or has not a slot for each range
+ *   1  an input slice's length differs from its record; there is no range, or more than GF_MOST_RANGES; there is no box
+ *   2  the output slice's length differs from its record, or has not a slot for each range or for each box
  *   3  a kind or a flag is outside its named values; a zero of either sign counts as 0
  *   4  a matrix is singular
  *   5  a miss
@@ -38,7 +38,7 @@
  * `uint32_t *out`, 1 for yes and 0 for no, and a place or a count into one `uint32_t`; these have no length, so no 2 is given.
  * Places count from 0; none is GF_NO_PLACE, which also fills slots that are not used.
  *
- * NaN and infinities. A verdict, a yes or no about a view, is given on finite numbers alone: the five gf_intersects_ functions and
+ * NaN and infinities. A verdict, a yes or no about a view, is given on finite numbers alone: the gf_intersects_ functions and
  * gf_farm_file refuse a NaN or an infinity with 13, anywhere in what they are lent. To every other function NaN and infinities may
  * be lent anywhere, and the arithmetic is that of IEEE 754. A comparison with a NaN is false: a NaN distance is on no plane's
  * positive side, a NaN alone does not make a range empty, a NaN flag or kind is refused with 3, a NaN determinant with 4. Least and
@@ -335,6 +335,14 @@ uint32_t gf_intersects_triangle(const double *volume, size_t volume_len, const d
  * The rays have no part in it but for 13. 3: the flag is neither 0, of either sign, nor 1. 13: also of a box with an empty range.
  * In: volume, bbox 23. Out: yes or no. Refuses: 1, 12, 1, 3, 13. */
 uint32_t gf_intersects_bbox(const double *volume, size_t volume_len, const double *bbox, size_t bbox_len, uint32_t *out);
+
+/* The same of several boxes, one or more of them, one behind another: box i of boxes has slot i of out, 1 if it is in view and 0 if
+ * not, as gf_intersects_bbox answers it. The volume is tested and its planes are gathered once, so that a call for all boxes of a
+ * view takes less time than one for each. Each refusal is looked for in all boxes before the next, and none has a part of the slots
+ * written. 1: the volume has fewer than 49 numbers, there is no number of a box, or their count is not a multiple of 23. 2: out has
+ * not a slot for each box. 3: the flag of any of the boxes. 13: any number of the volume or of a box.
+ * In: volume, boxes 23 each. Out: a slot for each box. Refuses: 1, 12, 1, 2, 3, 13. */
+uint32_t gf_intersects_bboxes(const double *volume, size_t volume_len, const double *boxes, size_t boxes_len, uint32_t *out, size_t out_len);
 
 /* Whether the box is in the clip volume of a matrix of view and projection: moved there, some corner has x below w and some
  * has x above -w, and so for y and z. These comparisons are strict, so touching does not count. Emptiness is not tested.

@@ -57,6 +57,11 @@ impl Lent {
     pub unsafe fn slice<'a>(self) -> &'a [f64] {
         unsafe { slice::from_raw_parts(self.at, self.len) }
     }
+
+    /// Words of 32 bits, as many as it is long.
+    pub unsafe fn slots<'a>(self) -> &'a mut [u32] {
+        unsafe { slice::from_raw_parts_mut(self.at.cast(), self.len) }
+    }
 }
 
 /// An input that is lent as a slice, and what a reference sees of it.

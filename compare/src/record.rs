@@ -70,6 +70,7 @@ mod tests {
                 224 => &[3, 11],
                 225 | 226 => &[1],
                 227 => &[1, 7, 12],
+                228 => &[1, 3, 12, 13],
                 _ => &[],
             };
             assert_eq!(statuses, refusals.iter().copied().chain([0]).collect(), "{}", op.name());

@@ -20,27 +20,66 @@ const ROUNDS: usize = 3;
 
 type Root = unsafe extern "C" fn(f64) -> f64;
 
+/// What a call gives.
+#[derive(Clone, Copy)]
+enum Gives {
+    /// A yes or no, in the first half of a number.
+    Verdict,
+    Numbers(usize),
+    /// A yes or no for each of so many, two in a number.
+    Slots(usize),
+}
+
+impl Gives {
+    /// How many numbers, or slots, it is lent.
+    fn room(self) -> usize {
+        match self {
+            Gives::Verdict => 1,
+            Gives::Numbers(room) | Gives::Slots(room) => room,
+        }
+    }
+
+    /// How many things it settles.
+    fn settles(self) -> usize {
+        if let Gives::Slots(slots) = self { slots } else { 1 }
+    }
+
+    /// How many of these were answered with a yes, or with a result where there
+    /// is no verdict.
+    fn yes(self, answer: &[f64]) -> usize {
+        let words = answer.iter().flat_map(|number| [number.to_bits() as u32, (number.to_bits() >> 32) as u32]);
+        match self {
+            Gives::Numbers(_) => 1,
+            Gives::Verdict | Gives::Slots(_) => words.take(self.settles()).filter(|&word| word == 1).count(),
+        }
+    }
+}
+
 /// One kind of call that a farm asks for.
 struct Work<'a> {
     name: &'static str,
     rust: &'a dyn Side,
     ours: &'a dyn Side,
-    /// How many numbers it gives; a verdict is in the first half of one.
-    gives: usize,
+    gives: Gives,
     calls: Box<dyn Fn(&Farm) -> Vec<Ins>>,
     roots: Box<dyn Fn(&Farm) -> Vec<f64>>,
+    /// It is part of the whole portfolio, and not there by another way already.
+    counts: bool,
 }
 
-/// A farm, with its focal length as it is lent.
+/// A farm, with its blocks one behind another and its focal length as they are
+/// lent.
 struct Farm {
     surveyed: SurveyedFarm,
+    blocks: Vec<Boxed>,
     focal_length: Single,
 }
 
 /// What came of some calls.
 #[derive(Clone, Copy, Default)]
 struct Spent {
-    calls: usize,
+    /// How many things they settle: as many as there are calls, but for a batch.
+    settled: usize,
     /// Answered with a yes, or with a result where there is no verdict.
     yes: usize,
     differences: usize,
@@ -67,24 +106,41 @@ pub fn survey(ops: &[Box<dyn Op>], farms: u64, seed: u64) -> Result<bool, String
     Ok(spent.iter().all(|spent| spent.differences == 0))
 }
 
-/// The kinds of call; blocks first, by how they are placed.
+/// The kinds of call; blocks first, one by one by how they are placed, then all
+/// of a farm in one call, which is how a farm asks where the archive has it.
 fn works(ops: &[Box<dyn Op>]) -> Result<Vec<Work<'_>>, String> {
     let work = |name, function: &str, gives, calls, roots| {
         let op = ops.iter().find(|op| op.name() == function);
         match op.and_then(|op| op.sides()) {
-            Some([Some(rust), Some(ours)]) => Ok(Work { name, rust, ours, gives, calls, roots }),
+            Some([Some(rust), Some(ours)]) => Ok(Work { name, rust, ours, gives, calls, roots, counts: true }),
             _ => Err(format!("the archive has no {function}")),
         }
     };
-    let blocks = |name, placed| work(name, "intersects_bbox", 1, block_calls(placed), block_roots(placed));
-    Ok(vec![
+    let blocks = |name, placed| work(name, "intersects_bbox", Gives::Verdict, block_calls(placed), block_roots(placed));
+    let mut all = vec![
         blocks("blocks, rigid", Placed::Rigid)?,
         blocks("blocks, scaled", Placed::Scaled)?,
         blocks("blocks, sheared", Placed::Sheared)?,
+    ];
+    let batches = work(
+        "blocks, in one call",
+        "intersects_bboxes",
+        Gives::Slots(SurveyedFarm::BLOCK_COUNT),
+        Box::new(|farm: &Farm| vec![Lent::all(&[farm.surveyed.view.numbers(), farm.blocks.as_flattened()])]),
+        Box::new(|farm: &Farm| farm.blocks.iter().flat_map(|block| box_roots(&farm.surveyed.view, block)).collect()),
+    );
+    match batches {
+        Ok(batches) => {
+            all.iter_mut().for_each(|work| work.counts = false);
+            all.push(batches);
+        }
+        Err(lacking) => println!("{lacking}: a farm's blocks are asked for one by one"),
+    }
+    all.extend([
         work(
             "rays on triangles",
             "ray_intersect_triangle",
-            5,
+            Gives::Numbers(5),
             Box::new(|farm: &Farm| {
                 farm.surveyed.hail.iter().map(|(ray, [a, b, c])| Lent::all(&[ray, a, b, c])).collect()
             }),
@@ -93,24 +149,25 @@ fn works(ops: &[Box<dyn Op>]) -> Result<Vec<Work<'_>>, String> {
         work(
             "planes from points",
             "plane_from_points",
-            4,
+            Gives::Numbers(4),
             Box::new(|farm: &Farm| farm.surveyed.panels.iter().map(|[a, b, c]| Lent::all(&[a, b, c])).collect()),
             Box::new(|farm: &Farm| farm.surveyed.panels.iter().map(|&corners| plane_root(corners)).collect()),
         )?,
         work(
             "cameras",
             "camera_set_from_view_and_projection",
-            24,
+            Gives::Numbers(24),
             Box::new(|farm: &Farm| {
                 let (view, projection, _) = &farm.surveyed.camera;
                 vec![Lent::all(&[view, projection, farm.focal_length.numbers()])]
             }),
             Box::new(|_: &Farm| vec![]),
         )?,
-    ])
+    ]);
+    Ok(all)
 }
 
-/// How many of the works are blocks.
+/// How many of the works are blocks one by one.
 const BLOCKS: usize = 3;
 
 fn block_calls(placed: Placed) -> Box<dyn Fn(&Farm) -> Vec<Ins>> {
@@ -196,7 +253,8 @@ fn plane_root([a, b, c]: [Point; 3]) -> f64 {
 impl Farm {
     fn drawn(rng: &mut Rng) -> Farm {
         let surveyed = SurveyedFarm::drawn(rng);
-        Farm { focal_length: surveyed.camera.2.into(), surveyed }
+        let blocks = surveyed.blocks.iter().map(|&(_, block)| block).collect();
+        Farm { focal_length: surveyed.camera.2.into(), blocks, surveyed }
     }
 }
 
@@ -206,14 +264,15 @@ impl Work<'_> {
     fn spent(&self, farms: &[Farm], root: Root, ours_first: bool) -> Spent {
         let calls: Vec<Ins> = farms.iter().flat_map(&self.calls).collect();
         let roots: Vec<f64> = farms.iter().flat_map(&self.roots).collect();
-        let mut spent = Spent { calls: calls.len(), roots: roots.len(), ..Spent::default() };
+        let settled = calls.len() * self.gives.settles();
+        let mut spent = Spent { settled, roots: roots.len(), ..Spent::default() };
         for ins in &calls {
             let (rust, ours) = (self.answer(self.rust, ins), self.answer(self.ours, ins));
             let agree = rust.0 == ours.0 && rust.1.iter().zip(&ours.1).all(|(&rust, &ours)| judge::signed(rust, ours));
             spent.differences += usize::from(!agree);
-            spent.yes += usize::from(ours.0 == 0 && (self.gives > 1 || ours.1[0].to_bits() as u32 == 1));
+            spent.yes += if ours.0 == 0 { self.gives.yes(&ours.1) } else { 0 };
         }
-        let mut out = vec![0.0; self.gives];
+        let mut out = vec![0.0; self.gives.room()];
         let mut pass = |side: &dyn Side| {
             let (calls, out) = (black_box(&calls[..]), Lent::to_write(&mut out));
             timed(|| side.pass(calls, out))
@@ -235,7 +294,7 @@ impl Work<'_> {
 
     /// The status of a call and what it writes.
     fn answer(&self, side: &dyn Side, ins: &Ins) -> (u32, Vec<f64>) {
-        let mut out = vec![0.0; self.gives];
+        let mut out = vec![0.0; self.gives.room()];
         let status = side.call(ins, Lent::to_write(&mut out));
         (status, out)
     }
@@ -262,7 +321,7 @@ fn median(mut times: Vec<Duration>) -> Duration {
 impl Sum for Spent {
     fn sum<I: Iterator<Item = Spent>>(all: I) -> Spent {
         all.fold(Spent::default(), |a, b| Spent {
-            calls: a.calls + b.calls,
+            settled: a.settled + b.settled,
             yes: a.yes + b.yes,
             differences: a.differences + b.differences,
             ours: a.ours + b.ours,
@@ -277,15 +336,15 @@ fn print(all: &[Work], spent: &[Spent], farms: u64, seed: u64) {
     println!("{farms} farms, seed {seed}");
     println!(
         "{:<20} {:>10} {:>6} {:>12} {:>14} {:>14} {:>12} {:>10} {:>9}",
-        "work", "calls", "yes", "differences", "ours a second", "Rust a second", "ours / Rust", "roots", "in roots"
+        "work", "asked", "yes", "differences", "ours a second", "Rust a second", "ours / Rust", "roots", "in roots"
     );
     for (i, (work, spent_on)) in all.iter().zip(spent).enumerate() {
         line(work.name, spent_on);
         if i + 1 == BLOCKS {
-            line("blocks", &spent[..BLOCKS].iter().copied().sum());
+            line("blocks, one by one", &spent[..BLOCKS].iter().copied().sum());
         }
     }
-    let whole: Spent = spent.iter().copied().sum();
+    let whole: Spent = all.iter().zip(spent).filter(|(work, _)| work.counts).map(|(_, spent)| *spent).sum();
     let [ours, rust] = [whole.ours, whole.rust].map(|time| time.as_secs_f64());
     let in_roots = whole.in_roots.as_secs_f64() / ours;
     println!(
@@ -296,15 +355,15 @@ fn print(all: &[Work], spent: &[Spent], farms: u64, seed: u64) {
 }
 
 fn line(name: &str, spent: &Spent) {
-    let calls = spent.calls as f64;
+    let settled = spent.settled as f64;
     let [ours, rust, in_roots] = [spent.ours, spent.rust, spent.in_roots].map(|time| time.as_secs_f64());
     println!(
         "{name:<20} {:>10} {:>4.0} % {:>12} {:>14.0} {:>14.0} {:>12.2} {:>10} {:>7.0} %",
-        spent.calls,
-        100.0 * spent.yes as f64 / calls,
+        spent.settled,
+        100.0 * spent.yes as f64 / settled,
         spent.differences,
-        calls / ours,
-        calls / rust,
+        settled / ours,
+        settled / rust,
         ours / rust,
         spent.roots,
         100.0 * in_roots / ours

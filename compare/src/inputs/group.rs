@@ -38,7 +38,7 @@ pub fn group(rng: &mut Rng) -> Vec<Boxed> {
     // A single number that is no flag, at any place.
     if rng.once_in(12) {
         let at = rng.below(size as u64) as usize;
-        boxes[at][22] = rng.pick(&[0.5, 2.0, -1.0, f64::NAN, 5e-324, -5e-324, f64::INFINITY, 1.0 + f64::EPSILON]);
+        boxes[at][22] = rng.pick(&NO_FLAGS);
     }
     boxes
 }

@@ -1,6 +1,7 @@
 //! Inputs: fixed lists, and draws from a generator. Here and in `number.rs`
 //! numbers are given by their bits, those of an f32 in the low half.
 
+mod batch;
 mod camera;
 mod clip;
 mod damage;
@@ -18,6 +19,7 @@ mod view;
 mod volume;
 mod whole;
 
+pub use batch::*;
 pub use camera::*;
 pub use clip::*;
 pub use damage::*;

@@ -31,8 +31,9 @@ pub struct SurveyedFarm {
 }
 
 impl SurveyedFarm {
-    /// How many blocks of each kind a farm has, 63 in all.
+    /// How many blocks of each kind a farm has, and in all.
     const BLOCKS: [(Placed, usize); 3] = [(Placed::Rigid, 25), (Placed::Scaled, 25), (Placed::Sheared, 13)];
+    pub const BLOCK_COUNT: usize = 63;
 
     /// How many panels a net has along each side, and how long and wide one is.
     const PANELS: usize = 4;
@@ -138,7 +139,7 @@ mod tests {
         let mut seen = 0;
         for number in 0..200 {
             let farm = SurveyedFarm::drawn(&mut Rng::at(1, number));
-            assert_eq!(farm.blocks.len(), 63);
+            assert_eq!(farm.blocks.len(), SurveyedFarm::BLOCK_COUNT);
             let planes = rust::planes(farm.view.numbers());
             let in_view = |block: &Boxed| planes.intersects_bbox(&rust::boxed(block).expect("a flag"));
             seen += farm.blocks.iter().filter(|(_, block)| in_view(block)).count();

@@ -1,6 +1,7 @@
 //! The exported functions: one function here for each, in the order of their
 //! codes.
 
+mod batch;
 mod bbox;
 mod camera;
 mod group;
@@ -32,6 +33,7 @@ pub fn all() -> Vec<Box<dyn Op>> {
         group::all(),
         nearest::all(),
         whole::all(),
+        batch::all(),
     ];
     files.into_iter().flatten().collect()
 }
@@ -41,6 +43,6 @@ mod tests {
     #[test]
     fn codes_are_in_the_order_of_the_functions() {
         let codes: Vec<u64> = super::all().iter().map(|op| op.code()).collect();
-        assert_eq!(codes, (1..=7).chain(101..=116).chain(201..=227).collect::<Vec<u64>>());
+        assert_eq!(codes, (1..=7).chain(101..=116).chain(201..=228).collect::<Vec<u64>>());
     }
 }

@@ -88,10 +88,6 @@ type RustWithin = fn(&[f64], &[f64], f64, &mut [u32], &mut u32) -> u32;
 // What a side is lent, in this order: the ranges, the point, the limit and the
 // slots; then the place, or the number found. Slots and the latter are u32.
 
-unsafe fn slots<'a>(lent: Lent) -> &'a mut [u32] {
-    unsafe { slice::from_raw_parts_mut(lent.at.cast(), lent.len) }
-}
-
 unsafe fn word<'a>(lent: Lent) -> &'a mut u32 {
     unsafe { &mut *lent.at.cast() }
 }
@@ -144,7 +140,7 @@ impl Search {
         let rust = Box::new(Pointer(
             within as RustWithin,
             |f: RustWithin, &[ranges, p, limit, out]: &Ins, found: Lent| unsafe {
-                f(ranges.slice(), p.slice(), *limit.at, slots(out), word(found))
+                f(ranges.slice(), p.slice(), *limit.at, out.slots(), word(found))
             },
         ));
         Search { name: "range_within", code: 226, lists: true, ours, rust, fixed: fixed() }

@@ -207,14 +207,14 @@ fn side(slip: Slip, lists: bool) -> Box<dyn Side> {
         match slip {
             _ if status == 0 => {}
             Slip::WordOnRefusal => *word(out) = NO_PLACE,
-            Slip::SlotsOnRefusal => slots(listing).fill(NO_PLACE),
+            Slip::SlotsOnRefusal => listing.slots().fill(NO_PLACE),
             _ => {}
         }
         if status != 0 {
             return status;
         }
         let answer = match lists {
-            true => listed(slip, ranges.slice(), p.slice(), *limit.at, slots(listing)),
+            true => listed(slip, ranges.slice(), p.slice(), *limit.at, listing.slots()),
             false => place_of(slip, ranges.slice(), p.slice()),
         };
         if slip != Slip::WordNotWritten {
