@@ -1,5 +1,5 @@
-// The operations of the crates `number`, codes from 1, `matrix`, from 101, `verdict`, from 201, `camera`, 223, `group`, 224, `nearest`,
-// 225 and 226, and `whole`, 227.
+// The operations of the crates `number`, codes from 1, `matrix`, from 101, `verdict`, from 201, `camera`, 223, `group`, 224 and 228,
+// `nearest`, 225 and 226, and `whole`, 227.
 ghost use Prim.Native.Nat.{_<_};
 use crate::camera_operations;
 use crate::group_operations;
@@ -22,8 +22,8 @@ pub(crate) fn lengths(code: u64, given: usize) -> [u8; 5] {
     if code <= 222 {
         return verdict_operations::lengths(code, given);
     }
-    if code == 224 {
-        return group_operations::lengths(given);
+    if (code == 224) | (code == 228) {
+        return group_operations::lengths(code, given);
     }
     if (code == 225) | (code == 226) {
         return nearest_operations::lengths(code, given);
@@ -70,8 +70,8 @@ pub(crate) fn call(code: u64, given: &[f64], lengths: [u8; 5], out: &mut [f64]) 
     if code <= 222 {
         return verdict_operations::call(code, a, b, c, d, out);
     }
-    if code == 224 {
-        return group_operations::call(a, out);
+    if (code == 224) | (code == 228) {
+        return group_operations::call(code, a, b, out);
     }
     if (code == 225) | (code == 226) {
         return nearest_operations::call(code, a, b, c, out);

@@ -88,6 +88,7 @@ fn print_camera_counts(agreed: &[u64; 256], read: &[u64; 256]) {
 
 fn print_group_counts(agreed: &[u64; 256], read: &[u64; 256]) {
     print_count(b"bbox_combine_group", 224, agreed, read);
+    print_count(b"intersects_bboxes", 228, agreed, read);
 }
 
 fn print_nearest_counts(agreed: &[u64; 256], read: &[u64; 256]) {

@@ -37,10 +37,10 @@ pub(crate) fn lengths(code: u64, given: usize) -> [u8; 5] {
 }
 
 // What stands where nothing was answered: no place, and no number of slots.
-const BLANK: u32 = 12345;
+pub(crate) const BLANK: u32 = 12345;
 
 // A word that was answered, to its place in a slice.
-fn put_word(word: u32, to: usize, out: &mut [f64]) {
+pub(crate) fn put_word(word: u32, to: usize, out: &mut [f64]) {
     if word == BLANK {
         return;
     }
