@@ -8,8 +8,8 @@ use native.Mathlib.Numerals.{add-one}
 use native.Mathlib.Omega.{arith}
 use Rattle.number.specs.Every.{everyBelow}
 use Rattle.number.specs.Answer.{Found, nowhere, found}
-use Rattle.nearest.specs.Places.{placesBelow, firstOf}
-use Rattle.nearest.proofs.Places.{below-or-last, none-pass, first-passes}
+use Rattle.number.specs.Places.{placesBelow, firstOf}
+use Rattle.number.proofs.PlacesBelow.{below-or-last, none-pass, first-passes}
 
 clash : true ≡ false → ⊥
 clash e = let z : _≡_ {A = ℕ} 0 1 = cc in omega arith

@@ -1,5 +1,4 @@
 -- The laws that the proofs of this crate, and of the crates above it, cite.
-pub mod Places
 pub mod First
 pub mod Distances
 pub mod Steps

@@ -9,15 +9,15 @@ use lib.Dec.{T}
 use lib.ListN.{length}
 use lib.Ieee.{Float, lt, le}
 use lib.Ieee.Bits.{is-true, is-false}
-use Rattle.number.proofs.Comparisons.{refuted, lt-not-le}
+use Rattle.number.proofs.Comparisons.{refuted, lt-not-le, not-less}
 use Rattle.matrix.specs.declared.vec.Vec3d.{Vec3d}
 use Rattle.number.specs.Answer.{Found, nowhere, found}
-use Rattle.nearest.specs.Places.{placesBelow, countBelow, firstOf}
+use Rattle.number.specs.Places.{placesBelow, countBelow, firstOf}
 use Rattle.nearest.specs.Nearest.{rangeCount, distanceAt, isCandidate, isNearer, isNearest, isWithin, nearestOf, placesWithin}
 use Rattle.nearest.specs.Meaning.{IsNearest, NearestMeans, NoneMeans, Rising, AreWithin, WithinMeans}
-use Rattle.nearest.proofs.Places.{as-many, below-or-last}
+use Rattle.number.proofs.PlacesBelow.{as-many, below-or-last}
 use Rattle.nearest.proofs.First.{Best, Searched, finds, searched}
-use Rattle.nearest.proofs.Distances.{not-less, a-number, one-way, through}
+use Rattle.nearest.proofs.Distances.{a-number, one-way, through}
 
 holds : {b : Bool} → b ≡ true → T b
 holds e = subst T (sym e) tt

@@ -13,7 +13,7 @@ use Rattle.matrix.specs.declared.range.Range3d.{Range3d}
 use Rattle.nearest.specs.declared.nearest.Nearest.{Nearest}
 use Rattle.number.specs.Slots.{unused}
 use Rattle.number.specs.Answer.{Found, nowhere, found}
-use Rattle.nearest.specs.Places.{firstOf, placesBelow}
+use Rattle.number.specs.Places.{firstOf, placesBelow}
 use Rattle.nearest.specs.Steps.{placeNumber}
 use Rattle.nearest.specs.Nearest.{mostRanges, rangeCount, rangeAt, distanceAt, isCandidate, isNearer, isNearest, nearestOf}
 use Rattle.nearest.specs.Steps.{withRange}

@@ -1,5 +1,4 @@
 -- What the contracts of this crate cite, and what a reader must believe.
-pub mod Places
 pub mod Nearest
 pub mod Calls
 pub mod Meaning

@@ -8,7 +8,7 @@ use lib.ListN.{length}
 use lib.Ieee.{Float, lt, le}
 use Rattle.matrix.specs.declared.vec.Vec3d.{Vec3d}
 use Rattle.number.specs.Answer.{nowhere, found}
-use Rattle.nearest.specs.Places.{countBelow}
+use Rattle.number.specs.Places.{countBelow}
 use Rattle.nearest.specs.Nearest.{rangeCount, distanceAt, isCandidate, isWithin, nearestOf, placesWithin}
 
 -- ---- the nearest

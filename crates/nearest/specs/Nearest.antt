@@ -15,7 +15,7 @@ use Rattle.matrix.specs.Range.{range, isEmpty, distanceSquared}
 use Rattle.matrix.specs.declared.vec.Vec3d.{Vec3d}
 use Rattle.matrix.specs.declared.range.Range3d.{Range3d}
 use Rattle.number.specs.Answer.{Found}
-use Rattle.nearest.specs.Places.{placesBelow, firstOf}
+use Rattle.number.specs.Places.{placesBelow, firstOf}
 
 -- ---- the ranges of a slice
 

@@ -1,14 +1,14 @@
 -- The comparisons of floats are an order: `le` passes through a number between, `lt` is told apart from `le` turned round, and what lies between finite numbers is finite.
 -- The idea: a finite number is a size with a sign, a difference p - q of which one is 0, over c; two such are in order just where p c' + q' c is at most p' c + q c',
 -- which is a sentence of whole numbers. Assumes nothing.
-use mathlib.Core.Path.{_≡_, refl}
+use mathlib.Core.Path.{_≡_, refl, sym, ap, subst}
 use mathlib.Core.Bool.{Bool, true, false, not, _&&_, _||_}
 use Prim.Native.Nat.{ℕ, _+_, _*_, _≤_, _<_}
 use native.Mathlib.Nat.{mul-le-mul-right, le-of-mul-le-mul-right}
 use native.Mathlib.Omega.{arith}
 use borrow.Author.Tests.{ltb-true, ltb-false, eq-eqb}
 use lib.Dec.{T, ltb, eqb, eqb→eq, ltb→lt}
-use lib.Ieee.{Float, nan, inf, fin, up, down, level, below, lt, eq, le, neg}
+use lib.Ieee.{Float, nan, inf, fin, up, down, level, below, lt, eq, le, neg, isNan}
 use lib.Ieee.Fits.{down-pos, and-l, and-r}
 use lib.Ieee.Scale.{finite}
 
@@ -215,6 +215,29 @@ neg-le (fin s m e) (inf false) h = tt
 neg-le (fin s m e) (fin t n d) h =
     order-test (not t) (not s) (n * up d) (down d) (m * up e) (down e) (turned s t (m * up e) (down e) (n * up d) (down d) (test-order s t (m * up e) (down e) (n * up d) (down d) h))
 
+-- and a comparison is turned round
+below-turned : (s t : Bool) (k l : ℕ) → below (not s) k (not t) l ≡ below t l s k
+below-turned false false k l = refl
+below-turned false true k l = let e : k + l ≡ l + k = omega arith in ap (λ (n : ℕ). ltb 0 n) e
+below-turned true false k l = refl
+below-turned true true k l = refl
+
+pub neg-lt : (x y : Float) → lt (neg x) (neg y) ≡ lt y x
+unfolding lt neg
+neg-lt nan nan = refl
+neg-lt nan (inf t) = refl
+neg-lt nan (fin t n d) = refl
+neg-lt (inf s) nan = refl
+neg-lt (inf true) (inf true) = refl
+neg-lt (inf true) (inf false) = refl
+neg-lt (inf false) (inf true) = refl
+neg-lt (inf false) (inf false) = refl
+neg-lt (inf s) (fin t n d) = refl
+neg-lt (fin s m e) nan = refl
+neg-lt (fin s m e) (inf true) = refl
+neg-lt (fin s m e) (inf false) = refl
+neg-lt (fin s m e) (fin t n d) = below-turned s t (m * up e * down d) (n * up d * down e)
+
 -- what lies between finite numbers is finite
 pub between-finite : (a x b : Float) → T (finite a) → T (finite b) → T (le a x) → T (le x b) → T (finite x)
 unfolding le lt eq
@@ -231,3 +254,40 @@ between-finite a (fin t n d) b p q h k = tt
 pub refuted : (b : Bool) → (T b → ⊥) → b ≡ false
 refuted true f = absurd (f tt)
 refuted false f = refl
+
+-- ---- the order of numbers that are no NaN, infinities among them
+
+pub not-less : (x y : Float) → isNan x ≡ false → isNan y ≡ false → lt x y ≡ false → T (le y x)
+unfolding lt le eq isNan
+not-less nan y p q h = absurd (subst T p tt)
+not-less (inf s) nan p q h = absurd (subst T q tt)
+not-less (inf true) (inf true) p q h = tt
+not-less (inf true) (inf false) p q h = absurd (subst T h tt)
+not-less (inf false) (inf true) p q h = tt
+not-less (inf false) (inf false) p q h = tt
+not-less (inf true) (fin t n d) p q h = absurd (subst T h tt)
+not-less (inf false) (fin t n d) p q h = tt
+not-less (fin s m e) nan p q h = absurd (subst T q tt)
+not-less (fin s m e) (inf true) p q h = tt
+not-less (fin s m e) (inf false) p q h = absurd (subst T h tt)
+not-less (fin s m e) (fin t n d) p q h = not-lt-le (fin s m e) (fin t n d) tt tt h
+
+pub less-is-number : (x y : Float) → T (lt x y) → (isNan x ≡ false) × (isNan y ≡ false)
+unfolding lt isNan
+less-is-number nan y t = absurd t
+less-is-number (inf s) nan t = absurd t
+less-is-number (inf s) (inf u) t = (refl, refl)
+less-is-number (inf s) (fin u n d) t = (refl, refl)
+less-is-number (fin s m e) nan t = absurd t
+less-is-number (fin s m e) (inf u) t = (refl, refl)
+less-is-number (fin s m e) (fin u n d) t = (refl, refl)
+
+-- less than another is not what the other is less than
+pub less-one-way : (x y : Float) → lt x y ≡ true → lt y x ≡ false
+less-one-way x y h = refuted (lt y x) (λ t. lt-not-le y x t (lt-le x y (subst T (sym h) tt)))
+
+-- what is not less than a number is not less than what that is not less than
+pub not-less-through : (x y z : Float) → isNan y ≡ false → lt x y ≡ false → lt y z ≡ false → lt x z ≡ false
+not-less-through x y z n p q = refuted (lt x z) (λ t.
+    let k = less-is-number x z t in
+    lt-not-le x z t (le-through z y x (not-less y z n (k .1) q) (not-less x y (k .0) n p)))

@@ -2,6 +2,7 @@
 pub mod Nan
 pub mod Tests
 pub mod Every
+pub mod PlacesBelow
 pub mod Magnitude
 pub mod Extremes
 pub mod JoinedBits

@@ -6,7 +6,7 @@ use lib.Dec.{eqb}
 use lib.ListN.{length}
 use lib.Ieee.{Float}
 use Rattle.number.specs.declared.answer.Refusal.{Refusal}
-use Rattle.number.specs.declared.answer.Refusal.the-variants.{InputLength, OutputLength, Kind, Singular, Miss, NotAProjection, OffGrid, NotFinite, Directory, SectionLength, GroupSize, PlaneCount, MissingNumber}
+use Rattle.number.specs.declared.answer.Refusal.the-variants.{InputLength, OutputLength, Kind, Singular, Miss, NotAProjection, OffGrid, NotFinite, Directory, SectionLength, GroupSize, PlaneCount, MissingNumber, InView}
 use Rattle.number.specs.declared.answer.Written.{Written}
 use Rattle.number.specs.declared.answer.Written.the-variants.{Done, Refused}
 use Rattle.number.specs.declared.answer.Scalar.{Scalar}
@@ -34,6 +34,7 @@ numberOf SectionLength = 10
 numberOf GroupSize = 11
 numberOf PlaneCount = 12
 numberOf MissingNumber = 13
+numberOf InView = 14
 
 -- ---- an operation that writes its result into a lent slice
 

@@ -8,6 +8,7 @@ pub mod Every
 pub mod Answer
 pub mod Slice
 pub mod Slots
+pub mod Places
 pub mod Bytes
 pub mod Grid
 pub mod Format

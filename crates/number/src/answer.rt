@@ -17,6 +17,7 @@ pub enum Refusal {
     GroupSize,
     PlaneCount,
     MissingNumber,
+    InView,
 }
 
 pub enum Written {
@@ -67,6 +68,7 @@ impl Refusal {
             Refusal::GroupSize => 11,
             Refusal::PlaneCount => 12,
             Refusal::MissingNumber => 13,
+            Refusal::InView => 14,
         }
     }
 }

@@ -10,7 +10,7 @@ use Rattle.number.specs.Limits.{rangeLength}
 use Rattle.number.specs.Slots.{unused, slotsOf}
 use Rattle.matrix.specs.declared.vec.Vec3d.{Vec3d}
 use Rattle.nearest.specs.Nearest.{rangeCount, isWithin, placesWithin}
-use Rattle.nearest.proofs.Places.{as-many, no-more}
+use Rattle.number.proofs.PlacesBelow.{as-many, no-more}
 use Rattle.nearest.proofs.nearest.list.Statement.{statement}
 use Rattle.nearest.proofs.nearest.list.Tie as tie
 

@@ -14,9 +14,9 @@ use mir.Val.{boolByte}
 use Rattle.matrix.specs.Range.{isEmpty, distanceSquared}
 use Rattle.matrix.specs.declared.vec.Vec3d.{Vec3d}
 use Rattle.matrix.specs.declared.range.Range3d.{Range3d}
-use Rattle.nearest.specs.Places.{placesBelow}
+use Rattle.number.specs.Places.{placesBelow}
 use Rattle.nearest.specs.Nearest.{rangeCount, rangeAt, isWithin, placesWithin}
-use Rattle.nearest.proofs.Places.{next-passes, next-fails}
+use Rattle.number.proofs.PlacesBelow.{next-passes, next-fails}
 use Rattle.nearest.proofs.nearest.places_within.Statement.{statement}
 use Rattle.nearest.proofs.nearest.places_within.Tie as tie
 

@@ -8,8 +8,8 @@ use borrow.Author.Tests.{ltb-true, ltb-false}
 use lib.Dec.{ltb}
 use native.Mathlib.Omega.{arith}
 use lib.ListN.{length, length-append}
 use Rattle.number.specs.Answer.{Found, nowhere, found}
-use Rattle.nearest.specs.Places.{placesBelow, countBelow, firstOf}
+use Rattle.number.specs.Places.{placesBelow, countBelow, firstOf}
 
 -- ---- how many
 
@@ -73,3 +73,41 @@ first-passes (suc n) test i l h before = go (λ k. first-passes n test i k h bef
     go below (inl k) = first-of-more (placesBelow n test) _ i (below k)
     go below (inr e) =
         ap firstOf (next-passes n test (subst (λ (k : ℕ). test k ≡ true) e h) ∙ ap (λ (m : List ℕ). m ++ (n ∷ [])) (none-pass n test (λ j k. before j (omega arith)))) ∙ ap found (sym e)
+
+-- ---- what is found
+
+module _ (test : ℕ → Bool) where
+  -- of the places below n that at i is the first that passes
+  pub record First (n i : ℕ) : Type 0 where
+    pub place : i < n
+    pub passes : test i ≡ true
+    pub before : (j : ℕ) → j < i → test j ≡ false
+
+  abbrev pub IsFirst : ℕ → Found → Type 0
+  IsFirst n nowhere = (i : ℕ) → i < n → test i ≡ false
+  IsFirst n (found i) = First n i
+
+  pub finds : (n : ℕ) (f : Found) → IsFirst n f → firstOf (placesBelow n test) ≡ f
+  finds n nowhere s = ap firstOf (none-pass n test s)
+  finds n (found i) s = first-passes n test i (s .place) (s .passes) (s .before)
+
+  record Some (n : ℕ) : Type 0 where
+    answer : Found
+    is : IsFirst n answer
+
+  one-more : (n : ℕ) (f : Found) → IsFirst n f → (b : Bool) → test n ≡ b → Some (suc n)
+  one-more n (found i) s b e = record { answer = found i; is = record { place = let k = s .place in omega arith; passes = s .passes; before = s .before } }
+  one-more n nowhere s true e = record { answer = found n; is = record { place = omega arith; passes = e; before = s } }
+  one-more n nowhere s false e = record { answer = nowhere; is = λ i l. at-last i (below-or-last i n l) }
+    where
+      at-last : (i : ℕ) → ((i < n) ⊎ (i ≡ n)) → test i ≡ false
+      at-last i (inl k) = s i k
+      at-last i (inr q) = subst (λ (k : ℕ). test k ≡ false) (sym q) e
+
+  some : (n : ℕ) → Some n
+  some zero = record { answer = nowhere; is = λ i l. absurd (omega arith) }
+  some (suc n) = let r = some n in one-more n (r .answer) (r .is) (test n) refl
+
+  -- a search ends with the first or nowhere, so that what is found is known
+  pub is-first : (n : ℕ) → IsFirst n (firstOf (placesBelow n test))
+  is-first n = let r = some n in subst (IsFirst n) (sym (finds n (r .answer) (r .is))) (r .is)
