@@ -53,7 +53,7 @@ pub(crate) fn sides_within(rows: &Rows, count: u32, p: Vec3d) -> u64
 }
 
 // Where the segment from a to b meets a plane, as a number that is 0 at a and 1 at b.
-fn crossing(plane: Plane, a: Vec3d, b: Vec3d) -> f64
+pub fn crossing(plane: Plane, a: Vec3d, b: Vec3d) -> f64
     ensures { λ r. ⌜ r ≡ crossing plane a b ⌝ }
 {
     -plane.distance(a) / plane.normal.dot(b.sub(a))

@@ -28,7 +28,7 @@ pub enum Held {
 }
 
 // Where plane i begins, behind the count: a plane is four numbers.
-fn plane_start(i: u32) -> usize
+pub fn plane_start(i: u32) -> usize
     ensures { λ r. ⌜ r ≡ planeStart i ⌝ }
 {
     1 + i as usize * 4

@@ -1,0 +1,71 @@
+-- `cuts_of` meets its contract: the cuts are those of the planes passed. Assumes nothing.
+use mathlib.Core.Path.{_≡_, sym, ap, _∙_}
+use mathlib.Core.List.{List}
+use Prim.Native.Nat.{ℕ, _+_, _-_, _≤_}
+use native.Mathlib.Numerals.{add-one}
+use native.Mathlib.Omega.{arith}
+use borrow.Author.Needs.{needs}
+use lib.ListN.{length, take, drop, length-drop}
+use lib.Seq.{take-all, getD-drop}
+use lib.Ieee.{Float, nan}
+use Rattle.matrix.specs.Vec.{vec3}
+use Rattle.matrix.specs.declared.vec.Vec3d.{Vec3d}
+use Rattle.verdict.specs.declared.plane.Plane.{Plane}
+use Rattle.verdict.specs.Plane.{plane, planeOf}
+use Rattle.verdict.specs.View.{planeStart, planeAt}
+use Rattle.blocking.specs.declared.cuts.Cuts.{Cuts}
+use Rattle.blocking.specs.Steps.{cutBelow, withPlane, cutsBelow}
+use Rattle.blocking.proofs.cuts.cuts_of.Statement.{statement}
+use Rattle.blocking.proofs.cuts.cuts_of.Tie as tie
+
+-- a plane that is read from where it begins
+read : (s : List Float) (i k : ℕ) (p : Plane) → k ≡ planeStart i → p ≡ planeOf (take (length s - k) (drop k s)) → p ≡ planeAt s i
+read s i k p e f =
+    f ∙ ap planeOf (take-all (length s - k) (drop k s) (omega (arith, length-drop k s))) ∙ ap (λ (n : ℕ). planeOf (drop n s)) e
+    ∙ (λ t. plane (vec3 (λ j. getD-drop (planeStart i) s j nan t)) (getD-drop (planeStart i) s 3 nan t))
+
+one-more : (f : ℕ → Plane) (a b : Vec3d) (i : ℕ) (c d : Cuts) (p : Plane) → c ≡ cutsBelow f a b i → p ≡ f i → d ≡ withPlane c p a b i → d ≡ cutsBelow f a b (i + 1)
+unfolding withPlane cutBelow
+one-more f a b i c d p e q r = r ∙ (λ t. withPlane (e t) (q t) a b i) ∙ ap (cutsBelow f a b) (sym (add-one i))
+
+abbrev Inv-loop : tie.InvT-loop
+Inv-loop view count a b cuts₀ i₀ cuts i = (i ≤ count) × (cuts ≡ cutsBelow (planeAt view) a b i)
+
+abbrev μ-loop : tie.MeasureT-loop
+μ-loop view count a b cuts₀ i₀ cuts i = count - i
+
+loop-holds : tie.Need-loop-holds Inv-loop μ-loop
+unfolding cutBelow
+loop-holds c = (omega arith, λ t. record { start = c .before .none .ensures t; end = c .none2 .ensures t })
+
+-- where plane i begins is in the record
+begins : tie.Need-sub-load Inv-loop μ-loop
+begins c = let s = c .before .before .before .before .before .before in omega (arith, c .plane-start .ensures, s .pre .1)
+
+mul-load : tie.Need-mul-load Inv-loop μ-loop
+mul-load c = let s = c .before .before .before .before .before .before in omega (arith, c .plane-start .ensures, s .pre .0)
+
+loop-again : tie.Need-loop-again Inv-loop μ-loop
+loop-again c =
+    let load = c .before in
+    let start = load .before .before in
+    let at-loop = start .before .before in
+    let l = at-loop .loop in
+    let g = at-loop .before .before .before .before .args in (
+      omega arith,
+      one-more (planeAt (g .view .now)) (g .a) (g .b) (l .i) (l .cuts) _ _ (l .inv .1)
+          (read (g .view .now) (l .i) _ _ (start .plane-start .ensures) (load .load .ensures)) (c .with .ensures),
+    )
+
+returns : tie.Need-returns Inv-loop μ-loop
+returns c =
+    let l = c .before .loop in
+    let g = c .before .before .before .before .before .args in
+    let e : l .i ≡ g .count = omega arith in
+    l .inv .1 ∙ ap (cutsBelow (planeAt (g .view .now)) (g .a) (g .b)) e
+
+pub cuts-of-spec : {M : Type 1} → statement M
+cuts-of-spec =
+    tie.close
+    (tie.spec Inv-loop μ-loop (λ c κs. tt) (λ c κs. tt) loop-holds (λ c κs. tt) mul-load begins (λ c. search needs) (λ c. search needs) (λ c κs. tt) (λ c κs. tt)
+    (λ c. search needs) (λ c. search needs) loop-again returns)

@@ -1,0 +1,25 @@
+-- What the answers of this crate mean, for planes and ends of any numbers. Statements; proofs/Meaning proves them. `T b` says that the test b holds, and `A ↔ B`
+-- that A holds exactly where B does.
+use mathlib.Core.Path.{_≡_}
+use mathlib.Core.Logic.{_↔_}
+use mathlib.Core.List.{List}
+use Prim.Native.Nat.{ℕ, _<_}
+use lib.Dec.{T}
+use lib.ListN.{length}
+use Rattle.number.specs.Answer.{nowhere, found}
+use Rattle.matrix.specs.declared.vec.Vec3d.{Vec3d}
+use Rattle.verdict.specs.declared.plane.Plane.{Plane}
+use Rattle.blocking.specs.Blocking.{seenWithout, blockingPlane}
+
+-- i is "the lowest plane place whose removal alone would make it yes"
+pub record IsBlocking (ps : List Plane) (a b : Vec3d) (i : ℕ) : Type 0 where
+  pub place : i < length ps
+  pub seen : T (seenWithout ps a b i)
+  pub lowest : (j : ℕ) → j < i → T (seenWithout ps a b j) → ⊥
+
+abbrev pub BlockingMeans : Type 0
+BlockingMeans = (ps : List Plane) (a b : Vec3d) (i : ℕ) → (blockingPlane ps a b ≡ found i) ↔ IsBlocking ps a b i
+
+-- "no single removal suffices"
+abbrev pub NoneMeans : Type 0
+NoneMeans = (ps : List Plane) (a b : Vec3d) → (blockingPlane ps a b ≡ nowhere) ↔ ((i : ℕ) → i < length ps → T (seenWithout ps a b i) → ⊥)
