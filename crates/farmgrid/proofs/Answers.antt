@@ -35,7 +35,7 @@ module _ (v : List Float) {n : ℕ} (W : VolumeRecord v n) where
   planes = planesOf v n
 
   -- the volume passes its checks
-  passed : result n ≡ planesHeld v
+  pub passed : result n ≡ planesHeld v
   passed =
       let h = W .counted .fewest in
       all-held v (omega (arith, W .numbers)) n (sym (count-exact (at v 0) n .1 (W .counted))) (W .numbers)

@@ -38,6 +38,7 @@ pub mod Counts
 pub mod Answers
 pub mod Verdicts
 pub mod MorePlanes
+pub mod BlockingPlane
 -- the whole-number engine, and both engines
 pub mod WholeSegment
 pub mod WholeRecords

@@ -6,6 +6,7 @@ pub mod Records
 pub mod Verdicts
 pub mod ClipSpace
 pub mod Screens
+pub mod BlockingPlane
 pub mod WholeNumbers
 pub mod Nearest
 pub mod Survey
