@@ -1,6 +1,7 @@
 // The operations of the crates `number`, codes from 1, `matrix`, from 101, `verdict`, from 201, `camera`, 223, `group`, 224 and 228,
-// `nearest`, 225 and 226, and `whole`, 227.
+// `nearest`, 225 and 226, `whole`, 227, and `blocking`, 229.
 ghost use Prim.Native.Nat.{_<_};
+use crate::blocking_operations;
 use crate::camera_operations;
 use crate::group_operations;
 use crate::matrix_operations;
@@ -30,6 +31,9 @@ pub(crate) fn lengths(code: u64, given: usize) -> [u8; 5] {
     }
     if code == 227 {
         return whole_operations::lengths(given);
+    }
+    if code == 229 {
+        return blocking_operations::lengths(given);
     }
     camera_operations::lengths(code)
 }
@@ -78,6 +82,9 @@ pub(crate) fn call(code: u64, given: &[f64], lengths: [u8; 5], out: &mut [f64]) 
     }
     if code == 227 {
         return whole_operations::call(a, b, c, out);
+    }
+    if code == 229 {
+        return blocking_operations::call(a, b, c, out);
     }
     camera_operations::call(a, b, c, out)
 }

@@ -1,5 +1,6 @@
 // Replays answers recorded from Rust. For each operation the program writes how many of its records the
-// crates `number`, `matrix`, `verdict`, `camera`, `group`, `nearest` and `whole` agree with, and how many it read.
+// crates `number`, `matrix`, `verdict`, `camera`, `group`, `nearest`, `whole` and `blocking` agree with, and how many it read.
+mod blocking_operations;
 mod calls;
 mod camera_operations;
 mod group_operations;
@@ -100,6 +101,10 @@ fn print_whole_counts(agreed: &[u64; 256], read: &[u64; 256]) {
     print_count(b"whole_intersects_segment", 227, agreed, read);
 }
 
+fn print_blocking_counts(agreed: &[u64; 256], read: &[u64; 256]) {
+    print_count(b"blocking_plane", 229, agreed, read);
+}
+
 fn main() {
     let mut agreed = [0u64; 256];
     let mut read = [0u64; 256];
@@ -116,4 +121,5 @@ fn main() {
     print_group_counts(&agreed, &read);
     print_nearest_counts(&agreed, &read);
     print_whole_counts(&agreed, &read);
+    print_blocking_counts(&agreed, &read);
 }
