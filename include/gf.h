@@ -31,6 +31,7 @@
  *   11 a group of boxes is empty, or has more numbers than 256 boxes
  *   12 a volume's or a view's count of planes is not whole, or outside GF_FEWEST_PLANES to GF_MOST_PLANES
  *   13 a number is missing: a record lent to a verdict, or one of a farm file, holds a NaN or an infinity
+ *   14 a segment is in view, of which it is asked what hides it
  *
  * With status 0 all that is lent for a result is written. Every refusal leaves all of it unchanged. Slices lent for reading
  * are never written. Where more than one refusal applies, the one that "Refuses" lists first is returned. A result of several
@@ -38,12 +39,12 @@
  * `uint32_t *out`, 1 for yes and 0 for no, and a place or a count into one `uint32_t`; these have no length, so no 2 is given.
  * Places count from 0; none is GF_NO_PLACE, which also fills slots that are not used.
  *
- * NaN and infinities. A verdict, a yes or no about a view, is given on finite numbers alone: the gf_intersects_ functions and
- * gf_farm_file refuse a NaN or an infinity with 13, anywhere in what they are lent. To every other function NaN and infinities may
- * be lent anywhere, and the arithmetic is that of IEEE 754. A comparison with a NaN is false: a NaN distance is on no plane's
- * positive side, a NaN alone does not make a range empty, a NaN flag or kind is refused with 3, a NaN determinant with 4. Least and
- * greatest pass over one NaN. In a verdict a NaN can still come about where finite numbers overflow, and the same holds of it. A
- * result that is a NaN may be any NaN.
+ * NaN and infinities. A verdict, a yes or no about a view, is given on finite numbers alone: the gf_intersects_ functions,
+ * gf_blocking_plane and gf_farm_file refuse a NaN or an infinity with 13, anywhere in what they are lent. To every other function
+ * NaN and infinities may be lent anywhere, and the arithmetic is that of IEEE 754. A comparison with a NaN is false: a NaN
+ * distance is on no plane's positive side, a NaN alone does not make a range empty, a NaN flag or kind is refused with 3, a NaN
+ * determinant with 4. Least and greatest pass over one NaN. In a verdict a NaN can still come about where finite numbers
+ * overflow, and the same holds of it. A result that is a NaN may be any NaN.
  *
  * Records, in numbers:
  *
@@ -350,7 +351,17 @@ uint32_t gf_intersects_bboxes(const double *volume, size_t volume_len, const dou
  * In: bbox 23, m 16. Out: yes or no. Refuses: 1, 3, 13. */
 uint32_t gf_intersects_view_volume(const double *bbox, size_t bbox_len, const double *m, size_t m_len, uint32_t *out);
 
-/* ---- the same in whole numbers: no float is read, made or written. An end's coordinates are at most 65536 in size, the entries
+/* ---- what hides a segment */
+
+/* Which plane alone hides a segment that is not in view: the lowest place of a plane without which gf_intersects_segment's rule, over
+ * the planes left, gives a yes. Places count from 0 in the order of the record, and all are tried, the original six too, of which five
+ * are left where there is no other plane. GF_NO_PLACE where no single removal suffices. That both ends are behind a plane does not
+ * make it the one. The rays have no part in it but for 13. All refusals of gf_intersects_segment come first, then 14: the segment is in
+ * view.
+ * In: volume, p0 3, p1 3. Out: a place. Refuses: 1, 12, 1, 13, 14. */
+uint32_t gf_blocking_plane(const double *volume, size_t volume_len, const double *p0, size_t p0_len, const double *p1, size_t p1_len, uint32_t *place);
+
+/* ---- a verdict in whole numbers: no float is read, made or written. An end's coordinates are at most 65536 in size, the entries
  * of a normal at most 128, a distance at most 16777216: the numbers of the farm grid */
 
 /* Whether any of the segment from p0 to p1, its ends included, is on the positive side of every plane, exactly. At each plane an

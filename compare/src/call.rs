@@ -1,7 +1,7 @@
 //! Calls that lend slices.
 
 use crate::inputs::{self, Draw, MISSING, Rng, mixed};
-use crate::judge;
+use crate::judge::{self, NO_PLACE};
 use crate::lent::{INPUTS, Input, Ins, Lent, Shape, Side, Single};
 use crate::op::{Op, Timed, Timing};
 use crate::trial::{Outcome, Trial};
@@ -48,7 +48,7 @@ pub struct Call<I> {
 impl<I: Input> Call<I> {
     /// A call with no inputs.
     pub fn new(of: Exported) -> Self {
-        let agrees = if of.gives == Shape::Verdict { judge::equal } else { judge::signed };
+        let agrees = if matches!(of.gives, Shape::Verdict | Shape::Place) { judge::equal } else { judge::signed };
         let drawn = |_, _: &mut Rng| unreachable!("no inputs are given");
         Call {
             of,
@@ -100,6 +100,12 @@ impl<I: Input> Call<I> {
         self
     }
 
+    /// Inputs that are always tried, and not recorded.
+    pub fn tried(mut self, inputs: Vec<I>) -> Self {
+        self.tried.extend(inputs);
+        self
+    }
+
     /// Where all further inputs come from.
     pub fn drawn(mut self, drawn: Draw<I>) -> Self {
         self.drawn = drawn;
@@ -115,6 +121,12 @@ impl<I: Input> Call<I> {
     /// One that is timed against the Rust of `other`.
     pub fn timed_by<J>(mut self, set: &'static str, drawn: Draw<I>, other: Call<J>) -> Self {
         self.sets.push(Set { name: set, drawn, against: Some(other.of.rust) });
+        self
+    }
+
+    /// One that is timed against a function of the archive, if it has that.
+    pub fn timed_beside(mut self, set: &'static str, drawn: Draw<I>, beside: Option<Box<dyn Side>>) -> Self {
+        self.sets.extend(beside.map(|side| Set { name: set, drawn, against: Some(side) }));
         self
     }
 
@@ -214,8 +226,13 @@ impl<I: Input> Call<I> {
     /// The kind of outcome, where this is left of a call.
     fn outcome(&self, status: u32, desk: &Desk) -> usize {
         match status {
-            0 if self.of.gives == Shape::Verdict && desk.verdict() => Outcome::YES,
-            0 if self.of.gives == Shape::Verdict => Outcome::NO,
+            0 => match (self.of.gives, desk.word()) {
+                (Shape::Verdict, 0) => Outcome::NO,
+                (Shape::Verdict, _) => Outcome::YES,
+                (Shape::Place, NO_PLACE) => Outcome::NONE,
+                (Shape::Place, _) => Outcome::PLACE,
+                _ => 0,
+            },
             _ => status as usize,
         }
     }
@@ -302,9 +319,10 @@ impl Desk {
         &self.words[self.at[i]..][..self.len[i]]
     }
 
-    fn verdict(&self) -> bool {
-        let [a, b, c, d, ..] = self.numbers(INPUTS)[0].to_ne_bytes();
-        u32::from_ne_bytes([a, b, c, d]) != 0
+    /// The first half of the result's first word.
+    fn word(&self) -> u32 {
+        let [a, b, c, d, ..] = self.words[self.at[INPUTS]].to_ne_bytes();
+        u32::from_ne_bytes([a, b, c, d])
     }
 
     /// Whether all is as expected: the result by `agrees`, all else by its
@@ -345,7 +363,7 @@ impl<I: Input> Trial for Call<I> {
             format!("[{}]", words.join(", "))
         };
         let result = |desk: &Desk| match self.of.gives {
-            Shape::Verdict => format!("{:#018x}", desk.numbers(INPUTS)[0]),
+            Shape::Verdict | Shape::Place => format!("{:#018x}", desk.numbers(INPUTS)[0]),
             _ => list(desk.numbers(INPUTS)),
         };
         let given = |(i, &shape): (usize, &Shape)| match shape {
@@ -406,7 +424,7 @@ impl<I: Input> Op for Call<I> {
             };
             let given: Vec<u64> = self.of.takes.iter().enumerate().flat_map(given).collect();
             let result: Vec<u64> = match (status, self.of.gives) {
-                (0, Shape::Verdict) => vec![desk.verdict().into()],
+                (0, Shape::Verdict | Shape::Place) => vec![desk.word().into()],
                 (0, _) => desk.numbers(INPUTS).iter().map(|&bits| words::plain(bits)).collect(),
                 _ => vec![],
             };

@@ -56,6 +56,16 @@ pub fn segment_by_pairs(planes: &[WholePlane], p0: Whole, p1: Whole) -> bool {
     })
 }
 
+/// The first place without whose plane some exact point of the closed segment
+/// satisfies the others.
+pub fn blocking(planes: &[WholePlane], p0: Whole, p1: Whole) -> Option<usize> {
+    (0..planes.len()).find(|&place| {
+        let mut left = planes.to_vec();
+        left.remove(place);
+        segment(&left, p0, p1)
+    })
+}
+
 /// The least and the greatest coordinates that axis planes allow, where they
 /// bound them.
 fn allowed(planes: &[WholePlane]) -> [Whole; 2] {

@@ -32,9 +32,9 @@ macro_rules! taken {
 ///
 /// A slice's length is a number, or `Volume` where its count tells it. A lone
 /// number in is an `f64` or an `f32`. The result is `[f64; length]`
-/// for a lent slice, `f64` for a lone number and `bool` for a yes or no. The
-/// reference sees slices of the right lengths, as arrays, and gives the result
-/// or the number of a refusal.
+/// for a lent slice, `f64` for a lone number, `bool` for a yes or no and `u32`
+/// for a place. The reference sees slices of the right lengths, as arrays, and
+/// gives the result or the number of a refusal.
 macro_rules! call {
     ($code:literal $name:ident($($parameters:tt)*) -> [f64; $m:literal] $body:block) => {
         call!(@ $code $name [$($parameters)*] [f64; $m] $body out (*mut f64, usize) (out.at, out.len))
@@ -44,6 +44,9 @@ macro_rules! call {
     };
     ($code:literal $name:ident($($parameters:tt)*) -> bool $body:block) => {
         call!(@ $code $name [$($parameters)*] bool $body out (*mut u32) (out.at.cast::<u32>()))
+    };
+    ($code:literal $name:ident($($parameters:tt)*) -> u32 $body:block) => {
+        call!(@ $code $name [$($parameters)*] u32 $body out (*mut u32) (out.at.cast::<u32>()))
     };
     (@ $code:literal $name:ident [$($in:ident: $n:tt),* $(; $number:ident: $lone:ty)?] $answer:ty $body:block
         $out:ident ($($c_type:ty),*) ($($c_argument:expr),*)) => {{

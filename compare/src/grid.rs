@@ -1,12 +1,12 @@
 //! The farm grid by a second judge, exact whole numbers: verdicts, turns,
-//! combining, what is nearest, both engines on lines that graze, and clip
-//! space. The Rust is judged as the archive is.
+//! combining, what is nearest, both engines on lines that graze, which plane
+//! hides a line, and clip space. The Rust is judged as the archive is.
 
 use crate::exact;
 use crate::inputs::{
     self, FarmBox, Rng, Turn, Whole, WholeAsked, WholePlane, among_others, farm_volume, floats, on_grid,
 };
-use crate::judge::NO_PLACE;
+use crate::judge::{IN_VIEW, NO_PLACE};
 use crate::lent::{Ins, Lent, Side};
 use crate::op::Op;
 use crate::ops::whole_lent;
@@ -28,9 +28,10 @@ enum Ask {
     Within,
     WholeSegment,
     ViewVolume,
+    Blocking,
 }
 
-const NAMES: [&str; 12] = [
+const NAMES: [&str; 13] = [
     "intersects_point",
     "intersects_segment",
     "intersects_bbox",
@@ -43,6 +44,7 @@ const NAMES: [&str; 12] = [
     "range_within",
     "whole_intersects_segment",
     "intersects_view_volume",
+    "blocking_plane",
 ];
 
 /// One who answers: the Rust, or the archive.
@@ -101,6 +103,18 @@ impl Engine<'_> {
         Ok(out[0].to_bits() as u32 == 1)
     }
 
+    /// The place of the plane that hides a segment; nothing where the segment is
+    /// in view.
+    fn blocking(&self, records: &[&[f64]]) -> Result<Option<u32>, String> {
+        let mut place = [0.0];
+        let function = self.functions[Ask::Blocking as usize].expect("asked only if exported");
+        match function.call(&Lent::all(records), Lent::to_write(&mut place)) {
+            0 => Ok(Some(place[0].to_bits() as u32)),
+            IN_VIEW => Ok(None),
+            refusal => Err(format!("blocking_plane of {} is refused: {refusal}", self.who)),
+        }
+    }
+
     /// Whether an answer is the one expected.
     fn expect<T: PartialEq + Debug>(&self, what: &str, answer: T, expected: T, of: &dyn Debug) -> Result<(), String> {
         if answer == expected {
@@ -150,6 +164,7 @@ pub fn all(ops: &[Box<dyn Op>]) -> Vec<Farm<'_>> {
         farm("ranges within", &[Ask::Within], within),
         farm("near ties", &[Ask::Segment, Ask::WholeSegment], near_ties),
         farm("grazing lines", &[Ask::Segment, Ask::WholeSegment], grazing_lines),
+        farm("hidden lines", &[Ask::Blocking], hidden_lines),
         farm("points in clip space", &[Ask::ViewVolume], clipped),
     ]
 }
@@ -396,6 +411,23 @@ fn near_ties(engines: &[Engine], _: u64, rng: &mut Rng) -> Result<usize, String>
 fn grazing_lines(engines: &[Engine], _: u64, rng: &mut Rng) -> Result<usize, String> {
     let (six, a, b) = inputs::grazing(rng);
     by_both(engines, rng, &six, a, b)
+}
+
+/// The plane that alone hides a line, or that the line is in view.
+fn hidden_lines(engines: &[Engine], _: u64, rng: &mut Rng) -> Result<usize, String> {
+    let (planes, a, b) = inputs::farm_blocked(rng);
+    let place = exact::blocking(&planes, a, b).map_or(NO_PLACE, |place| place as u32);
+    let exact = (!exact::segment(&planes, a, b)).then_some(place);
+    let volume = farm_volume(&planes);
+    for engine in engines {
+        let answer = engine.blocking(&[volume.numbers(), &floats(a), &floats(b)])?;
+        engine.expect("what hides a line", answer, exact, &(&planes, a, b))?;
+    }
+    Ok(match exact {
+        None => IN_VIEW as usize,
+        Some(NO_PLACE) => Outcome::NONE,
+        Some(_) => Outcome::PLACE,
+    })
 }
 
 /// A box of which an exact point is in the clip volume is not lost; and the

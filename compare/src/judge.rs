@@ -31,6 +31,9 @@ pub const NO_COUNT: u32 = 12;
 /// A number of a verdict's records is missing: a NaN or an infinity.
 pub const MISSING_NUMBER: u32 = 13;
 
+/// A segment that is to be out of view is in it.
+pub const IN_VIEW: u32 = 14;
+
 /// No place, and what fills a slot that is not used.
 pub const NO_PLACE: u32 = u32::MAX;
 

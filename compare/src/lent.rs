@@ -16,13 +16,15 @@ pub enum Shape {
     Single,
     /// A yes or no, in the first half of a word.
     Verdict,
+    /// A place, in the first half of a word.
+    Place,
 }
 
 impl Shape {
     pub fn len(self) -> usize {
         match self {
             Shape::Slice(len) => len,
-            Shape::Number | Shape::Single | Shape::Verdict => 1,
+            Shape::Number | Shape::Single | Shape::Verdict | Shape::Place => 1,
         }
     }
 }
@@ -183,6 +185,24 @@ impl Answer for bool {
 
     fn store(self, to: &mut u32) {
         *to = self.into();
+    }
+}
+
+/// A place.
+impl Answer for u32 {
+    type Lent = u32;
+    const SHAPE: Shape = Shape::Place;
+
+    unsafe fn lent<'a>(lent: Lent) -> &'a mut u32 {
+        unsafe { &mut *lent.at.cast() }
+    }
+
+    fn fits(_: &u32) -> bool {
+        true
+    }
+
+    fn store(self, to: &mut u32) {
+        *to = self;
     }
 }
 

@@ -71,6 +71,7 @@ mod tests {
                 225 | 226 => &[1],
                 227 => &[1, 7, 12],
                 228 => &[1, 3, 12, 13],
+                229 => &[1, 12, 13, 14],
                 _ => &[],
             };
             assert_eq!(statuses, refusals.iter().copied().chain([0]).collect(), "{}", op.name());
@@ -80,10 +81,10 @@ mod tests {
         }
     }
 
-    /// A place and none, of the nearest and of a list.
+    /// A place and none, of the nearest, of a list and of a hidden segment.
     #[test]
     fn a_place_and_none_are_recorded() {
-        for (code, none) in [(225, u64::from(NO_PLACE)), (226, 0)] {
+        for (code, none) in [(225, u64::from(NO_PLACE)), (226, 0), (229, u64::from(NO_PLACE))] {
             let op = ops::all().into_iter().find(|op| op.code() == code).expect("there is one");
             let vectors = op.vectors();
             let answered = vectors.iter().map(|words| &words[1 + words[0] as usize..]).filter(|words| words[0] == 0);

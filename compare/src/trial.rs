@@ -7,7 +7,7 @@ use std::ops::Range;
 pub struct Outcome;
 
 impl Outcome {
-    pub const NAMES: [&'static str; 23] = [
+    pub const NAMES: [&'static str; 24] = [
         "done",
         "refused 1",
         "refused 2",
@@ -22,6 +22,7 @@ impl Outcome {
         "refused 11",
         "refused 12",
         "refused 13",
+        "refused 14",
         "no",
         "yes",
         "zero",
@@ -32,12 +33,12 @@ impl Outcome {
         "a place",
         "none",
     ];
-    pub const NO: usize = 14;
-    pub const YES: usize = 15;
+    pub const NO: usize = 15;
+    pub const YES: usize = 16;
     /// The first of the kinds of number.
-    pub const NUMBER: usize = 16;
-    pub const PLACE: usize = 21;
-    pub const NONE: usize = 22;
+    pub const NUMBER: usize = 17;
+    pub const PLACE: usize = 22;
+    pub const NONE: usize = 23;
 }
 
 /// How many differing cases are described.

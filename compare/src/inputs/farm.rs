@@ -50,7 +50,7 @@ pub const WHOLE_CUBE: [WholePlane; 6] = [
     WholePlane { normal: [0, 0, -1], distance: -10 },
 ];
 
-fn farm_planes(planes: &[WholePlane]) -> Vec<[f64; 4]> {
+pub(super) fn farm_planes(planes: &[WholePlane]) -> Vec<[f64; 4]> {
     planes.iter().map(|plane| plane_of(floats(plane.normal), plane.distance as f64)).collect()
 }
 
@@ -163,7 +163,7 @@ pub fn grid_point(rng: &mut Rng) -> Whole {
 }
 
 /// A normal of a segment plane.
-fn whole_normal(rng: &mut Rng) -> Whole {
+pub(super) fn whole_normal(rng: &mut Rng) -> Whole {
     let size = rng.pick(&[1, 2, NORMAL, NORMAL]);
     match rng.below(8) {
         0 => array::from_fn(|_| rng.pick(&[NORMAL, -NORMAL])),

@@ -2,6 +2,7 @@
 //! numbers are given by their bits, those of an f32 in the low half.
 
 mod batch;
+mod blocking;
 mod camera;
 mod clip;
 mod damage;
@@ -20,6 +21,7 @@ mod volume;
 mod whole;
 
 pub use batch::*;
+pub use blocking::*;
 pub use camera::*;
 pub use clip::*;
 pub use damage::*;

@@ -137,7 +137,7 @@ pub fn volume_and_segment(rng: &mut Rng) -> (Volume, Point, Point) {
     (screened(rng, six), a, b)
 }
 
-fn six_and_segment(rng: &mut Rng) -> (Six, Point, Point) {
+pub(super) fn six_and_segment(rng: &mut Rng) -> (Six, Point, Point) {
     if rng.once_in(4) {
         let (planes, a, b) = farm_segment(rng);
         return (farm_six(&planes), floats(a), floats(b));

@@ -3,6 +3,7 @@
 
 mod batch;
 mod bbox;
+mod blocking;
 mod camera;
 mod group;
 mod matrix;
@@ -34,6 +35,7 @@ pub fn all() -> Vec<Box<dyn Op>> {
         nearest::all(),
         whole::all(),
         batch::all(),
+        blocking::all(),
     ];
     files.into_iter().flatten().collect()
 }
@@ -43,6 +45,6 @@ mod tests {
     #[test]
     fn codes_are_in_the_order_of_the_functions() {
         let codes: Vec<u64> = super::all().iter().map(|op| op.code()).collect();
-        assert_eq!(codes, (1..=7).chain(101..=116).chain(201..=228).collect::<Vec<u64>>());
+        assert_eq!(codes, (1..=7).chain(101..=116).chain(201..=229).collect::<Vec<u64>>());
     }
 }

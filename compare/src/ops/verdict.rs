@@ -19,7 +19,7 @@ const NAN: f64 = f64::NAN;
 const FAR: f64 = f64::INFINITY;
 
 /// The cube with every odd count, and with others than its own.
-fn odd_counts() -> impl Iterator<Item = Volume> {
+pub(super) fn odd_counts() -> impl Iterator<Item = Volume> {
     let six = inputs::COUNTS.into_iter().map(|count| Volume::of(CUBE).counted(count));
     let full = inputs::with_planes(CUBE, MOST_PLANES);
     let most_planes = MOST_PLANES as f64;
@@ -38,14 +38,14 @@ const UNIT: Range = [0.0, 0.0, 0.0, 1.0, 1.0, 1.0];
 
 /// Volumes of which each number is to be missing in turn: six planes, screens,
 /// no count, another length.
-fn struck_volumes() -> [Volume; 5] {
+pub(super) fn struck_volumes() -> [Volume; 5] {
     let [no_count, other_length, six] = mended();
     [six, inputs::with_planes(CUBE, 7), inputs::with_planes(CUBE, MOST_PLANES), no_count, other_length]
 }
 
 /// A volume with no count and another length than any; then with a count, and
 /// then with its length.
-fn mended() -> [Volume; 3] {
+pub(super) fn mended() -> [Volume; 3] {
     let long = inputs::with_planes(CUBE, 8);
     [long.counted(NAN), long.counted(7.0), Volume::of(CUBE)]
 }
