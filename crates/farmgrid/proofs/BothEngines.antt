@@ -49,7 +49,7 @@ use Rattle.farmgrid.proofs.WholeRecords.{grid-point, segment-plane, who
 -- ---- the count in front
 
 -- a float is one whole number at most
-one-whole-number : {x : Float} {a b : ℤ} → Whole x a → Whole x b → a ≡ b
+pub one-whole-number : {x : Float} {a b : ℤ} → Whole x a → Whole x b → a ≡ b
 one-whole-number g h = eq-whole g h .0 (eq-whole g g .1 refl)
 
 module _ {x : Float} {z : ℤ} (w : Whole x z) where

@@ -10,17 +10,18 @@ use native.Mathlib.Omega.{arith}
 use lib.Dec.{T}
 use lib.IntN.{ℤ, pos, _-ℤ_, _*ℤ_}
 use lib.Signed.{_≤ℤ_}
-use Rattle.whole.proofs.Integer.{hi, lo, of-self as self, of-pos, of-neg, of-le, of-min, of-max, le-is}
+use Rattle.whole.proofs.Integer.{hi, lo, of-self as self, of-pos, of-neg, of-le, of-min, of-max, le-is, _⊟_, _⊠_}
 use Rattle.whole.specs.Plane.{WholePlane}
 use Rattle.farmgrid.specs.Placement.{smaller, larger}
-use Rattle.farmgrid.proofs.WholeSigns.{_⊟_, _⊠_, flip}
+use Rattle.farmgrid.proofs.WholeSigns.{flip}
 use Rattle.farmgrid.proofs.Singles.{Single, single, single-dot}
 use Rattle.farmgrid.proofs.PlacedRanges.{placed-nonempty}
 use Rattle.verdict.specs.declared.plane.Plane.{Plane}
 use Rattle.verdict.specs.declared.bbox.BBox3d.{BBox3d}
 use Rattle.verdict.specs.Frustum.{boxInView}
 use Rattle.farmgrid.specs.FarmGrid.{AxisPlane, WholeBox, GridBox, ArePlanes, IsBox, lowOf, highOf}
-use Rattle.farmgrid.specs.FarmGrid.{ExactPoint, Satisfies, InBox, Share, BoxInView}
+use Rattle.exact.specs.ExactPoint.{ExactPoint, Satisfies, InBox, BoxInView}
+use Rattle.farmgrid.specs.FarmGrid.{Share}
 use Rattle.farmgrid.proofs.EveryPlane.{every-of, every-both}
 use Rattle.farmgrid.proofs.BoxReach.{Reaches, endOf, reaches-along}
 use Rattle.farmgrid.proofs.BoxPlane.{grid-wide, box-reaches}
@@ -76,7 +77,7 @@ module _ {B : WholeBox} (G : GridBox B) where
   abbrev clamped : ExactPoint → ExactPoint
   clamped X = record { numbers = λ j. nearest (X .k) (lowOf B j) (highOf B j) (X .numbers j); k = X .k; some = X .some }
 
-  clamped-in : (X : ExactPoint) → InBox B (clamped X)
+  clamped-in : (X : ExactPoint) → InBox (lowOf B) (highOf B) (clamped X)
   clamped-in X = record {
     least = λ j h. nearest-least (X .k) (lowOf B j) (highOf B j) (X .numbers j) (pos 0);
     greatest = λ j h. nearest-greatest (X .k) (lowOf B j) (highOf B j) (X .numbers j) (pos 0)
@@ -94,7 +95,7 @@ module _ {B : WholeBox} (G : GridBox B) where
     met : Reaches B P ↔ (P .distance ≤ℤ endOf (s .sign) (lowOf B (s .from)) (highOf B (s .from)))
     met = reaches-along P B (G .placement) s
 
-    reached : InBox B X → Satisfies P X → Reaches B P
+    reached : InBox (lowOf B) (highOf B) X → Satisfies P X → Reaches B P
     reached h t = met .1 (meets (X .k) (lowOf B j) (highOf B j) (X .numbers j) (P .distance) (X .some) (s .sign)
         (h .least j (s .below)) (h .greatest j (s .below)) (rw (single-dot s (X .numbers)) at (t .side)))
 
@@ -105,7 +106,7 @@ module _ {B : WholeBox} (G : GridBox B) where
     }
 
 pub box-is : {ps : List Plane} {Ps : List WholePlane} {b : BBox3d} {B : WholeBox} → ArePlanes AxisPlane ps Ps → Share Ps → IsBox b B
-    → T (boxInView ps b) ↔ BoxInView Ps B
+    → T (boxInView ps b) ↔ BoxInView Ps (lowOf B) (highOf B)
 box-is {Ps = Ps} {B = B} hs S g =
     let G = g .grid in
     let X = S .point in

@@ -17,7 +17,7 @@ use Rattle.number.specs.Limits.{gridLimit}
 use Rattle.number.specs.Arithmetic.{_⊘_}
 use Rattle.whole.specs.Plane.{WholePlane, dotℤ}
 use Rattle.farmgrid.specs.Whole.{Whole}
-use Rattle.whole.proofs.Integer.{by-test, of-self as self, of-pos, of-neg, of-eq, abs-minus, abs-neg}
+use Rattle.whole.proofs.Integer.{by-test, of-self as self, of-pos, of-neg, of-eq, abs-minus, abs-neg, _⊞_, _⊟_, _⊠_}
 use Rattle.farmgrid.proofs.Exact.{neg-whole, le-whole, over-one}
 use Rattle.farmgrid.proofs.Formula.{Fit}
 use Rattle.matrix.specs.Constants.{positiveZero, one}
@@ -28,7 +28,7 @@ use Rattle.matrix.specs.declared.vec.Vec3d.{Vec3d}
 use Rattle.matrix.specs.declared.vec.Vec4d.{Vec4d}
 use Rattle.matrix.specs.declared.inverse.Inverted.{Inverted}
 use Rattle.farmgrid.specs.Placement.{WholeVec, WholeVec4, WholeRange, WholeMatrix, Within, NonEmpty, Placement, dot4ℤ, sizes}
-use Rattle.farmgrid.proofs.WholeSigns.{_⊞_, _⊟_, _⊠_, abs-flip}
+use Rattle.farmgrid.proofs.WholeSigns.{abs-flip}
 use Rattle.farmgrid.proofs.Singles.{three, four, single, single-dot}
 use Rattle.farmgrid.proofs.QuarterTurns.{widen, widen-placement}
 use Rattle.farmgrid.proofs.WholeSums.{zero-whole, one-whole, axis-fit, dot-fit, whole-vec3}
@@ -42,7 +42,8 @@ use Rattle.verdict.specs.Plane.{equation, fromEquation, offset, endToward, furt
 use Rattle.verdict.proofs.ReachSum.{reach-by-dot}
 use Rattle.verdict.specs.BBox.{boxEpsilon, flagBeside}
 use Rattle.verdict.specs.Frustum.{intoSpaceOf, boxInView}
-use Rattle.farmgrid.specs.FarmGrid.{AxisPlane, WholeBox, IsPlane, ArePlanes, IsBox, Every}
+use Rattle.exact.specs.ExactPoint.{Every}
+use Rattle.farmgrid.specs.FarmGrid.{AxisPlane, WholeBox, IsPlane, ArePlanes, IsBox}
 use Rattle.farmgrid.proofs.EveryPlane.{every-is}
 use Rattle.farmgrid.proofs.Distance.{same-test, non-negative}
 use Rattle.farmgrid.proofs.BoxReach.{Reaches, inSpace, ahead, distanceIn, in-space-single, reach-in-space, at-least}

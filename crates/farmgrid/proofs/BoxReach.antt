@@ -9,14 +9,15 @@ use native.Mathlib.Omega.{arith}
 use lib.IntN.{ℤ, pos, negℤ, natAbs, _+ℤ_, _-ℤ_}
 use lib.Signed.{nonNeg, _≤ℤ_}
 use Rattle.number.specs.Grid.{signed}
-use Rattle.whole.proofs.Integer.{of-self as self, of-pos, of-neg, of-eq, of-le, le-is, max-left, max-right, max-shift, neg-min}
+use Rattle.whole.proofs.Integer.{of-self as self, of-pos, of-neg, of-eq, of-le, le-is, max-left, max-right, max-shift, neg-min, _⊞_, _⊟_}
 use Rattle.whole.specs.Plane.{WholePlane, dotℤ, gap}
 use Rattle.farmgrid.specs.Placement.{NonEmpty, QuarterTurn, PlacementWithin, turnedℤ, movedℤ, sizes, smaller, larger}
-use Rattle.farmgrid.proofs.WholeSigns.{_⊞_, _⊟_, flip, abs-flip}
+use Rattle.farmgrid.proofs.WholeSigns.{flip, abs-flip}
 use Rattle.farmgrid.proofs.Singles.{Single, single, single-dot, unit-own}
 use Rattle.farmgrid.proofs.WholeRanges.{placed-low, placed-high}
 use Rattle.farmgrid.specs.FarmGrid.{WholeBox, lowOf, highOf}
-use Rattle.farmgrid.proofs.Dot.{dot-comm, dot-sum, dot-turned}
+use Rattle.whole.proofs.Dot.{dot-comm, dot-sum}
+use Rattle.farmgrid.proofs.Dot.{dot-turned}
 
 -- the greater of the plane's exact distances from the placed least and the placed greatest corner
 abbrev pub reachOf : WholePlane → WholeBox → ℤ

@@ -13,7 +13,8 @@ use Rattle.farmgrid.proofs.QuarterTurns.{product-moves}
 use Rattle.verdict.specs.declared.plane.Plane.{Plane}
 use Rattle.verdict.specs.declared.bbox.BBox3d.{BBox3d}
 use Rattle.verdict.specs.Frustum.{boxInView}
-use Rattle.farmgrid.specs.FarmGrid.{AxisPlane, WholeBox, ArePlanes, IsBox, Every, movedPlane, movedBox}
+use Rattle.exact.specs.ExactPoint.{Every}
+use Rattle.farmgrid.specs.FarmGrid.{AxisPlane, WholeBox, ArePlanes, IsBox, movedPlane, movedBox}
 use Rattle.farmgrid.proofs.Distance.{same-test}
 use Rattle.farmgrid.proofs.EveryPlane.{every-moved}
 use Rattle.farmgrid.proofs.Turned.{gap-moved}

@@ -18,10 +18,9 @@ use Rattle.verdict.specs.FrustumCalls.{haveLengths, verdictAfter, viewVolumeCal
 use Rattle.verdict.specs.Marked.{identityRows}
 use Rattle.farmgrid.specs.Whole.{Equals, Whole}
 use Rattle.farmgrid.specs.Placement.{WholeRange, WholeMatrix, Sized}
-use Rattle.farmgrid.specs.FarmGrid.{ExactPoint}
+use Rattle.exact.specs.ExactPoint.{ExactPoint}
 use Rattle.farmgrid.specs.ClipSpace.{boxMatrixLimit, viewProjectionLimit, AffineBox, InRange, InClipVolume, clipPoint, besideEdge, besideEdgeℤ, identityℤ, FoundOutside}
-use Rattle.whole.proofs.Integer.{of-self as self, of-pos, of-le, of-lt}
-use Rattle.farmgrid.proofs.WholeSigns.{_⊞_, _⊠_}
+use Rattle.whole.proofs.Integer.{of-self as self, of-pos, of-le, of-lt, _⊞_, _⊠_}
 use Rattle.farmgrid.proofs.Singles.{three, four}
 use Rattle.farmgrid.proofs.Below.{every-below}
 

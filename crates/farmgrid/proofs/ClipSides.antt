@@ -9,12 +9,14 @@ use lib.IntN.{ℤ, pos, negℤ, _+ℤ_, _-ℤ_, _*ℤ_}
 use lib.Signed.{_<ℤ_}
 use Rattle.whole.specs.Plane.{dotℤ}
 use Rattle.farmgrid.specs.Placement.{columnℤ, turnedℤ, productℤ, cornerℤ}
-use Rattle.farmgrid.specs.FarmGrid.{WholeBox, ExactPoint, exactly}
+use Rattle.exact.specs.ExactPoint.{ExactPoint}
+use Rattle.farmgrid.specs.FarmGrid.{WholeBox, exactly}
 use Rattle.farmgrid.specs.ClipSpace.{AffineBox, InRange, throughℤ, placedPoint, clipPoint, InClipVolume, SomeCorner, EachSide}
-use Rattle.whole.proofs.Integer.{of-self as self, of-pos, of-neg, of-eq, of-lt}
-use Rattle.farmgrid.proofs.WholeSigns.{_⊞_, _⊟_, _⊠_, dot-flip}
+use Rattle.whole.proofs.Integer.{of-self as self, of-pos, of-neg, of-eq, of-lt, _⊞_, _⊟_, _⊠_}
+use Rattle.farmgrid.proofs.WholeSigns.{dot-flip}
 use Rattle.farmgrid.proofs.Singles.{same-dot}
-use Rattle.farmgrid.proofs.Dot.{dot-comm, dot-sum, dot-times, dot-turned}
+use Rattle.whole.proofs.Dot.{dot-comm, dot-sum, dot-times}
+use Rattle.farmgrid.proofs.Dot.{dot-turned}
 use Rattle.farmgrid.proofs.QuarterTurns.{affine-turned, affine-moved}
 use Rattle.farmgrid.proofs.RangeCorners.{affineAt, positive-corner}
 

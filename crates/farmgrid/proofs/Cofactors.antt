@@ -7,12 +7,12 @@ use mathlib.Core.Bool.{Bool, true, false, not, cond}
 use lib.Dec.{ltb, lit<}
 use lib.IntN.{ℤ, pos, negℤ, _+ℤ_, _-ℤ_, _*ℤ_, *ℤ-comm}
 use Rattle.number.specs.Grid.{signed}
-use Rattle.whole.proofs.Integer.{by-test, of-self as self, of-pos, of-neg, of-eq, times-assoc}
+use Rattle.whole.proofs.Integer.{by-test, of-self as self, of-pos, of-neg, of-eq, times-assoc, _⊞_, _⊟_, _⊠_}
 use Rattle.matrix.specs.Inverse.{without}
 use Rattle.whole.specs.Plane.{dotℤ}
 use Rattle.farmgrid.specs.Placement.{PlacementWithin}
 use Rattle.farmgrid.specs.Placement.{dot4ℤ}
-use Rattle.farmgrid.proofs.WholeSigns.{_⊞_, _⊟_, _⊠_, flip, flip-one, flip-zero, flip-neg, dot-flip, plus-zero}
+use Rattle.farmgrid.proofs.WholeSigns.{flip, flip-one, flip-zero, flip-neg, dot-flip, plus-zero}
 use Rattle.farmgrid.proofs.Singles.{three, four, same-dot}
 use Rattle.farmgrid.proofs.InversePlacements.{inverseℤ, inverse-upper, inverse-last}
 use Rattle.farmgrid.proofs.TurnDeterminants.{plusℤ, expandedℤ, cofactorℤ, odd, minor, cofactor3, mirrored, determinants-are, cofactor3-is}

@@ -20,7 +20,7 @@ use Rattle.verdict.specs.declared.plane.Plane.{Plane}
 use Rattle.verdict.specs.Plane.{distanceTo, onPositiveSide}
 use Rattle.farmgrid.specs.FarmGrid.{SegmentPlane, IsPoint, IsPlane}
 use Rattle.farmgrid.proofs.WholeSums.{zero-whole, axis-fit, dot-fit}
-use Rattle.farmgrid.proofs.Dot.{dot-comm, dot-sum}
+use Rattle.whole.proofs.Dot.{dot-comm, dot-sum}
 
 -- ---- tests
 -- two tests that pass in the same cases are equal

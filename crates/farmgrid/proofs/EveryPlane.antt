@@ -7,7 +7,8 @@ use lib.Ieee.Fits.{and-i, and-l, and-r}
 use Rattle.number.specs.Every.{every}
 use Rattle.verdict.specs.declared.plane.Plane.{Plane}
 use Rattle.whole.specs.Plane.{WholePlane}
-use Rattle.farmgrid.specs.FarmGrid.{IsPlane, ArePlanes, none, more, Every}
+use Rattle.exact.specs.ExactPoint.{Every}
+use Rattle.farmgrid.specs.FarmGrid.{IsPlane, ArePlanes, none, more}
 
 -- where a test says K of each plane of a kind, the test of every plane says K of every one
 module _ (Kind : WholePlane → Type 0) (test : Plane → Bool) (K : WholePlane → Type 0) (says : (p : Plane) (P : WholePlane) → IsPlane Kind p P → T (test p) ↔ K P) where

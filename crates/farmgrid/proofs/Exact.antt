@@ -18,9 +18,7 @@ use lib.Ieee.Scale.{round-same}
 use Rattle.number.specs.Arithmetic.{_⊘_, absOf, minOf, maxOf}
 use Rattle.number.specs.Grid.{signed}
 use Rattle.farmgrid.specs.Whole.{Whole}
-use Rattle.whole.proofs.Integer.{hi, lo, Of, of-self, of-pos, of-neg, of-sum, of-minus, of-times, of-eq, eq-of}
-use Rattle.whole.proofs.Integer.{by-test, le-is, lt-is, eq-is, abs-is, abs-neg, abs-times}
-use Rattle.whole.proofs.Integer.{minℤ, maxℤ, min-left, min-right, max-left, max-right}
+use Rattle.whole.proofs.Integer.{hi, lo, Of, of-self, of-pos, of-neg, of-sum, of-minus, of-times, of-eq, eq-of, by-test, le-is, lt-is, eq-is, abs-is, abs-neg, abs-times, minℤ, maxℤ, min-left, min-right, max-left, max-right}
 use Rattle.farmgrid.proofs.Value.{At, Minus, Within, at-of, of-at, neg-at, add-at, sub-at, mul-at}
 use Rattle.farmgrid.proofs.Compare.{lt-at, le-at, eq-at, min-at, max-at, at-not-nan}
 

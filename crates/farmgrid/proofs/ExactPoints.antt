@@ -10,8 +10,9 @@ use lib.IntN.{ℤ, pos, _+ℤ_, _-ℤ_, _*ℤ_}
 use lib.Signed.{_≤ℤ_}
 use Rattle.whole.proofs.Integer.{of-self, of-pos, of-sum, of-minus, of-times, of-eq, of-le, le-is}
 use Rattle.whole.specs.Plane.{WholePlane, dotℤ, gap}
-use Rattle.farmgrid.specs.FarmGrid.{exactly, between, Satisfies, Every, InView, SegmentInView}
-use Rattle.farmgrid.proofs.Dot.{dot-sum, dot-times}
+use Rattle.exact.specs.ExactPoint.{Satisfies, Every, InView}
+use Rattle.farmgrid.specs.FarmGrid.{exactly, between, SegmentInView}
+use Rattle.whole.proofs.Dot.{dot-sum, dot-times}
 use Rattle.farmgrid.proofs.Span.{Keeps, Place}
 
 -- ---- every plane of a list

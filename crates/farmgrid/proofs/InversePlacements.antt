@@ -7,12 +7,12 @@ use mathlib.Core.Bool.{Bool, true, false, cond}
 use lib.Dec.{eqb, eqb→eq}
 use lib.IntN.{ℤ, pos, negℤ, natAbs, _+ℤ_, pos-ne-negsuc}
 use Rattle.number.specs.Grid.{signed}
-use Rattle.whole.proofs.Integer.{by-test, of-self as self, of-neg, of-eq, abs-neg}
+use Rattle.whole.proofs.Integer.{by-test, of-self as self, of-neg, of-eq, abs-neg, _⊞_}
 use Rattle.whole.specs.Plane.{dotℤ}
 use Rattle.farmgrid.proofs.Exact.{abs-signed}
 use Rattle.farmgrid.specs.Placement.{QuarterTurn, PlacementWithin}
 use Rattle.farmgrid.specs.Placement.{columnℤ, turnedℤ, movedℤ}
-use Rattle.farmgrid.proofs.WholeSigns.{_⊞_, flip}
+use Rattle.farmgrid.proofs.WholeSigns.{flip}
 use Rattle.farmgrid.proofs.Singles.{three, Single, unit-own, same-dot, dot-single}
 use Rattle.farmgrid.proofs.QuarterTurns.{transposeℤ, source, target, turned-within, moved-is, same-sizes}
 
@@ -51,7 +51,7 @@ module _ {b : ℕ} {f : ℕ → ℕ → ℤ} (F : PlacementWithin b f) where
   }
 
 -- where the 1 or -1 of p stands at j in q, the place in q is j, and the sign is the same
-crossing : {p q : ℕ → ℤ} (s : Single p) (t : Single q) (j : ℕ) → j < 3 → p (s .from) ≡ q j → (t .from ≡ j) × (t .sign ≡ s .sign)
+pub crossing : {p q : ℕ → ℤ} (s : Single p) (t : Single q) (j : ℕ) → j < 3 → p (s .from) ≡ q j → (t .from ≡ j) × (t .sign ≡ s .sign)
 crossing s t j h e =
     by-test (λ u. signed (s .sign) 1 ≡ cond u (signed (t .sign) 1) (pos 0) → (t .from ≡ j) × (t .sign ≡ s .sign)) (eqb j (t .from))
     (λ r e. (sym (eqb→eq j (t .from) r), alike (t .sign) (s .sign) (sym e)))

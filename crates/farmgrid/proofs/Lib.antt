@@ -43,6 +43,9 @@ pub mod BlockingPlane
 pub mod WholeSegment
 pub mod WholeRecords
 pub mod BothEngines
+-- the exact verdict on boxes
+pub mod ExactBoxes
+pub mod FiledApart
 -- the nearest range
 pub mod RangeDistance
 pub mod Nearest
@@ -59,11 +62,13 @@ pub mod TurnedDot
 pub mod Turned
 pub mod BoxTurned
 pub mod Turns
+pub mod ExactTurned
 -- combining and grouping
 pub mod Extents
 pub mod CombinedBoxes
 pub mod PlacedCorners
 pub mod CombinedRecords
+pub mod ExactRecords
 pub mod Totals
 pub mod Combining
 pub mod Groups

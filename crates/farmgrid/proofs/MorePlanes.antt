@@ -23,7 +23,8 @@ use Rattle.verdict.specs.Plane.{onPositiveSide, reachesPositiveSide, underInver
 use Rattle.verdict.specs.View.{planesOf}
 use Rattle.verdict.specs.Frustum.{pointInView, segmentInView, boxInView, intoSpaceOf}
 use Rattle.whole.specs.Plane.{WholePlane}
-use Rattle.farmgrid.specs.FarmGrid.{SegmentPlane, AxisPlane, WholeBox, IsPoint, IsBox, ArePlanes, exactly, between, Satisfies, Every}
+use Rattle.exact.specs.ExactPoint.{Satisfies, Every}
+use Rattle.farmgrid.specs.FarmGrid.{SegmentPlane, AxisPlane, WholeBox, IsPoint, IsBox, ArePlanes, exactly, between}
 use Rattle.farmgrid.specs.Screens.{PlaneMore, PointScreened, SegmentScreened, BoxScreened, EachPlaneScreens}
 use Rattle.farmgrid.proofs.FiniteNumbers.{point-finite, box-record-finite, view-finite}
 use Rattle.farmgrid.proofs.Answers.{point-answer, segment-answer, box-answer}
@@ -34,7 +35,7 @@ use Rattle.farmgrid.proofs.BoxPlane.{grid-wide, box-reaches}
 -- ---- what holds of every plane holds of every plane without one
 
 module _ (K : WholePlane → Type 0) (P : WholePlane) (Qs : List WholePlane) where
-  every-without : (Ps : List WholePlane) → Every K (Ps ++ P ∷ Qs) → Every K (Ps ++ Qs)
+  pub every-without : (Ps : List WholePlane) → Every K (Ps ++ P ∷ Qs) → Every K (Ps ++ Qs)
   every-without [] h = h .1
   every-without (O ∷ Ps) h = (h .0, every-without Ps (h .1))
 

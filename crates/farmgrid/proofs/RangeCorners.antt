@@ -9,11 +9,11 @@ use native.Mathlib.Omega.{arith}
 use lib.Dec.{eqb, lit<}
 use lib.IntN.{ℤ, pos, negsuc, _+ℤ_, _*ℤ_}
 use lib.Signed.{nonNeg, _≤ℤ_, _<ℤ_}
-use Rattle.whole.proofs.Integer.{hi, lo, of-self as self, of-pos, of-le, of-lt}
-use Rattle.farmgrid.proofs.WholeSigns.{_⊞_, _⊠_}
+use Rattle.whole.proofs.Integer.{hi, lo, of-self as self, of-pos, of-le, of-lt, _⊞_, _⊠_}
 use Rattle.whole.specs.Plane.{dotℤ}
 use Rattle.farmgrid.specs.Placement.{cornerℤ}
-use Rattle.farmgrid.specs.FarmGrid.{ExactPoint, exactly}
+use Rattle.exact.specs.ExactPoint.{ExactPoint}
+use Rattle.farmgrid.specs.FarmGrid.{exactly}
 use Rattle.farmgrid.proofs.BoxReach.{ahead}
 
 -- the affine sum of the coefficients c at an exact point, multiplied through by k: the last coefficient is the constant

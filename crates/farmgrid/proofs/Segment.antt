@@ -20,7 +20,8 @@ use Rattle.verdict.specs.declared.plane.Plane.{Plane}
 use Rattle.verdict.specs.Plane.{onPositiveSide}
 use Rattle.verdict.specs.Frustum.{pointInView, hasEnd, spanLeft, segmentInView}
 use Rattle.farmgrid.specs.FarmGrid.{SegmentPlane, IsPoint, ArePlanes, none, more}
-use Rattle.farmgrid.specs.FarmGrid.{exactly, Satisfies, InView, SegmentInView}
+use Rattle.exact.specs.ExactPoint.{Satisfies, InView}
+use Rattle.farmgrid.specs.FarmGrid.{exactly, SegmentInView}
 use Rattle.farmgrid.proofs.WholeSums.{zero-whole, one-whole}
 use Rattle.farmgrid.proofs.Distance.{non-negative, distance-whole, side, slope-fit}
 use Rattle.whole.specs.declared.fraction.Fraction.{Fraction}

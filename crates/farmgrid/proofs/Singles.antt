@@ -8,11 +8,11 @@ use lib.Dec.{eqb, lit<}
 use lib.IntN.{ℤ, pos, negsuc, natAbs, _+ℤ_, _*ℤ_}
 use lib.Signed.{nonNeg}
 use Rattle.number.specs.Grid.{signed}
-use Rattle.whole.proofs.Integer.{of-self as self, of-pos, of-eq}
+use Rattle.whole.proofs.Integer.{of-self as self, of-pos, of-eq, _⊞_}
 use Rattle.whole.specs.Plane.{dotℤ}
 use Rattle.farmgrid.specs.Placement.{sizes}
-use Rattle.farmgrid.proofs.WholeSigns.{_⊞_, flip, times-unit}
-use Rattle.farmgrid.proofs.Dot.{dot-comm}
+use Rattle.farmgrid.proofs.WholeSigns.{flip, times-unit}
+use Rattle.whole.proofs.Dot.{dot-comm}
 
 -- ---- what holds at each place holds at every place
 

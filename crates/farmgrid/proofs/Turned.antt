@@ -13,8 +13,9 @@ use Rattle.whole.specs.Plane.{WholePlane, dotℤ, gap}
 use Rattle.farmgrid.specs.Placement.{turnedℤ, movedℤ, QuarterTurn}
 use Rattle.verdict.specs.declared.plane.Plane.{Plane}
 use Rattle.verdict.specs.Frustum.{pointInView, segmentInView}
-use Rattle.farmgrid.specs.FarmGrid.{SegmentPlane, IsPoint, ArePlanes, exactly, Satisfies, InView, SegmentInView, movedPlane}
-use Rattle.farmgrid.proofs.Dot.{dot-sum}
+use Rattle.exact.specs.ExactPoint.{Satisfies, InView}
+use Rattle.farmgrid.specs.FarmGrid.{SegmentPlane, IsPoint, ArePlanes, exactly, SegmentInView, movedPlane}
+use Rattle.whole.proofs.Dot.{dot-sum}
 use Rattle.farmgrid.proofs.TurnedDot.{keeps-dot}
 use Rattle.farmgrid.proofs.Distance.{same-test}
 use Rattle.farmgrid.proofs.Span.{Keeps, place-map}

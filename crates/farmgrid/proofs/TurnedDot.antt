@@ -9,7 +9,8 @@ use lib.IntN.{ℤ, pos, negsuc, natAbs, _+ℤ_, _*ℤ_, *ℤ-zero, zero-*ℤ}
 use Rattle.whole.proofs.Integer.{hi, lo, Of, of-self, of-pos, of-sum, of-times, of-eq}
 use Rattle.whole.specs.Plane.{dotℤ}
 use Rattle.farmgrid.specs.Placement.{columnℤ, turnedℤ, sizes, QuarterTurn}
-use Rattle.farmgrid.proofs.Dot.{dot-comm, dot-turned}
+use Rattle.whole.proofs.Dot.{dot-comm}
+use Rattle.farmgrid.proofs.Dot.{dot-turned}
 
 -- ---- the rows of a quarter turn
 square : (z : ℤ) → natAbs z ≤ 1 → z *ℤ z ≡ pos (natAbs z)

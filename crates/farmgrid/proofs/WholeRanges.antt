@@ -12,7 +12,7 @@ use lib.Signed.{_≤ℤ_, ltZ, ltZ-yes, ltZ-no, clashℤ}
 use lib.Ieee.{Float, lt}
 use Rattle.number.specs.Arithmetic.{_⊗_, minOf, maxOf}
 use Rattle.farmgrid.specs.Whole.{Whole}
-use Rattle.whole.proofs.Integer.{of-self as self, of-eq, of-min, of-max, min-ind, max-ind, min-shift, max-shift}
+use Rattle.whole.proofs.Integer.{of-self as self, of-eq, of-min, of-max, min-ind, max-ind, min-shift, max-shift, _⊞_}
 use Rattle.farmgrid.proofs.Exact.{lt-whole, min-whole, max-whole}
 use Rattle.farmgrid.proofs.Formula.{Fit, fit-sum, fit-times}
 use Rattle.matrix.specs.declared.matrix.Mat4d.{Mat4d}
@@ -30,7 +30,7 @@ use Rattle.farmgrid.proofs.WholeSums.{axis-fit, whole-vec3}
 use Rattle.farmgrid.proofs.WholePlacements.{wide, entry-fit}
 use Rattle.number.proofs.Places.{same-test}
 use Rattle.number.proofs.Comparisons.{refuted}
-use Rattle.farmgrid.proofs.WholeSigns.{_⊞_, flip, times-unit}
+use Rattle.farmgrid.proofs.WholeSigns.{flip, times-unit}
 
 -- ---- emptiness
 

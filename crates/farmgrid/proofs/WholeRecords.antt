@@ -16,7 +16,8 @@ use Rattle.whole.specs.SegmentCall.{pointOf, planesOf, viewLength, countOf, poi
 use Rattle.whole.proofs.Limits.{point-sizes, plane-sizes}
 use Rattle.whole.proofs.Checks.{answered}
 use Rattle.farmgrid.specs.Placement.{GridPoint}
-use Rattle.farmgrid.specs.FarmGrid.{SegmentPlane, Every}
+use Rattle.exact.specs.ExactPoint.{Every}
+use Rattle.farmgrid.specs.FarmGrid.{SegmentPlane}
 use Rattle.farmgrid.specs.WholeNumbers.{WholeSegmentExact}
 use Rattle.farmgrid.proofs.Singles.{three}
 use Rattle.farmgrid.proofs.WholeSegment.{whole-segment-is}
@@ -38,7 +39,7 @@ plane-passes : (P : WholePlane) → SegmentPlane P → planeWithin P ≡ true
 plane-passes P k = let n = k .entries .size in λ t.
     le-leb _ _ (n 0 (lit< tt)) t && le-leb _ _ (n 1 (lit< tt)) t && le-leb _ _ (n 2 (lit< tt)) t && le-leb _ _ (k .far) t
 
-planes-pass : (Ps : List WholePlane) → Every SegmentPlane Ps → every planeWithin Ps ≡ true
+pub planes-pass : (Ps : List WholePlane) → Every SegmentPlane Ps → every planeWithin Ps ≡ true
 unfolding every
 planes-pass [] h = refl
 planes-pass (P ∷ Ps) h = λ t. plane-passes P (h .0) t && planes-pass Ps (h .1) t

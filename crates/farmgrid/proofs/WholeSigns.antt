@@ -1,27 +1,13 @@
 -- Integers with a sign turned or not. The idea of each proof: both sides are written out as differences of natural numbers, and
--- `omega` decides the equation between those. The operators below write the differences as the integers are written.
+-- `omega` decides the equation between those.
 use mathlib.Core.Path.{_≡_, refl}
-use Prim.Native.Nat.{ℕ, _+_, _*_}
+use Prim.Native.Nat.{ℕ}
 use native.Mathlib.Omega.{arith}
 use mathlib.Core.Bool.{Bool, true, false, cond}
-use lib.IntN.{ℤ, pos, negℤ, natAbs, _+ℤ_, _-ℤ_, _*ℤ_, negℤ-negℤ}
+use lib.IntN.{ℤ, pos, negℤ, natAbs, _+ℤ_, _*ℤ_, negℤ-negℤ}
 use Rattle.number.specs.Grid.{signed}
-use Rattle.whole.proofs.Integer.{Of, of-self as self, of-pos, of-neg, of-sum, of-minus, of-times, of-eq, abs-neg}
+use Rattle.whole.proofs.Integer.{of-self as self, of-pos, of-neg, of-eq, abs-neg, _⊞_, _⊠_}
 use Rattle.whole.specs.Plane.{dotℤ}
-
--- ---- sums, differences and products of differences
-
-infixl 65 _⊞_ _⊟_
-infixl 70 _⊠_
-module _ {p q p' q' : ℕ} {a b : ℤ} (g : Of p q a) (h : Of p' q' b) where
-  pub _⊞_ : Of (p + p') (q + q') (a +ℤ b)
-  _⊞_ = of-sum g h
-
-  pub _⊟_ : Of (p + q') (q + p') (a -ℤ b)
-  _⊟_ = of-minus g h
-
-  pub _⊠_ : Of (p * p' + q * q') (p * q' + q * p') (a *ℤ b)
-  _⊠_ = of-times g h
 
 -- ---- z, or -z where s is true
 

@@ -20,7 +20,8 @@ use Rattle.verdict.specs.Frustum.{clipCorner}
 use Rattle.verdict.specs.FrustumCalls.{viewVolumeCall}
 use Rattle.verdict.specs.Marked.{plus, minus, three, four, boxRecord, identityRows}
 use Rattle.farmgrid.specs.Placement.{WholeVec4, WholeRange, WholeMatrix, Sized, NonEmpty, GridPoint, turnedℤ, productℤ, cornerℤ}
-use Rattle.farmgrid.specs.FarmGrid.{WholeBox, ExactPoint, exactly}
+use Rattle.exact.specs.ExactPoint.{ExactPoint}
+use Rattle.farmgrid.specs.FarmGrid.{WholeBox, exactly}
 use Rattle.farmgrid.specs.Records.{Settled}
 
 -- ---- blocks and cameras

@@ -6,10 +6,10 @@ use mathlib.Core.Path.{_≡_}
 use mathlib.Core.List.{List, [], _∷_}
 use Prim.Native.Nat.{ℕ, _-_, _≤_, _<_}
 use lib.Dec.{lit≤}
-use lib.IntN.{ℤ, pos, natAbs, _+ℤ_, _-ℤ_, _*ℤ_}
-use lib.Signed.{_≤ℤ_}
+use lib.IntN.{ℤ, pos, natAbs, _+ℤ_, _*ℤ_}
 use Rattle.number.specs.Limits.{normalLimit, distanceLimit}
 use Rattle.whole.specs.Plane.{WholePlane, dotℤ}
+use Rattle.exact.specs.ExactPoint.{ExactPoint, InView}
 use Rattle.farmgrid.specs.Whole.{Whole}
 use Rattle.matrix.specs.declared.vec.Vec3d.{Vec3d}
 use Rattle.farmgrid.specs.Placement.{WholeVec, WholeRange, WholeMatrix, Within, NonEmpty, GridPoint, Placement, sizes, turnedℤ, productℤ, placedCorner, placedLow, placedHigh}
@@ -82,33 +82,13 @@ pub record IsBox (b : BBox3d) (B : WholeBox) : Type 0 where
 
 -- ---- exact points
 
--- "An exact point is written as three whole numbers over one whole k of at least 1"
-pub record ExactPoint : Type 0 where
-  pub numbers : ℕ → ℤ
-  pub k : ℕ
-  pub some : 1 ≤ k
-
--- a grid point is one, over 1
+-- a grid point is an exact point, over 1
 abbrev pub exactly : (ℕ → ℤ) → ExactPoint
 exactly A = record { numbers = A; k = 1; some = lit≤ tt }
 
 -- "The exact points of a segment are (k − m) times its first end plus m times its second, over k, for whole m from 0 to k."
 abbrev pub between : (ℕ → ℤ) → (ℕ → ℤ) → (k m : ℕ) → 1 ≤ k → ExactPoint
 between A B k m h = record { numbers = λ i. pos (k - m) *ℤ A i +ℤ pos m *ℤ B i; k = k; some = h }
-
--- "A point satisfies a plane if the dot product of normal and point, less the distance, is at least 0", and of an exact point
--- "every condition on it is multiplied through by k".
-pub record Satisfies (P : WholePlane) (X : ExactPoint) : Type 0 where
-  pub side : pos 0 ≤ℤ (dotℤ (P .normal) (X .numbers) -ℤ pos (X .k) *ℤ P .distance)
-
--- what holds of every plane of a list
-abbrev pub Every : (WholePlane → Type 0) → List WholePlane → Type 0
-Every K [] = Unit {0}
-Every K (P ∷ Ps) = K P × Every K Ps
-
--- An exact point is "in the view if it satisfies every plane".
-abbrev pub InView : List WholePlane → ExactPoint → Type 0
-InView Ps X = Every (λ P. Satisfies P X) Ps
 
 -- Planes "share one themselves if some exact point satisfies them all".
 pub record Share (Ps : List WholePlane) : Type 0 where
@@ -122,17 +102,6 @@ pub record SegmentInView (Ps : List WholePlane) (A B : ℕ → ℤ) : Type 0 whe
   pub some : 1 ≤ k
   pub part : m ≤ k
   pub seen : InView Ps (between A B k m some)
-
--- "An exact point is in the placed box if each coordinate lies from the least to the greatest of that coordinate among them"
-pub record InBox (B : WholeBox) (X : ExactPoint) : Type 0 where
-  pub least : (j : ℕ) → j < 3 → (pos (X .k) *ℤ lowOf B j) ≤ℤ X .numbers j
-  pub greatest : (j : ℕ) → j < 3 → X .numbers j ≤ℤ (pos (X .k) *ℤ highOf B j)
-
--- "placed box and view share an exact point"
-pub record BoxInView (Ps : List WholePlane) (B : WholeBox) : Type 0 where
-  pub point : ExactPoint
-  pub held : InBox B point
-  pub seen : InView Ps point
 
 -- ---- turns
 

@@ -8,6 +8,8 @@ pub mod ClipSpace
 pub mod Screens
 pub mod BlockingPlane
 pub mod WholeNumbers
+pub mod ExactBoxes
+pub mod FiledApart
 pub mod Nearest
 pub mod Survey
 pub mod Turns

@@ -5,7 +5,8 @@ use lib.IntN.{ℤ}
 use lib.Ieee.{Float}
 use Rattle.verdict.specs.FrustumCalls.{intersectsPointCall, intersectsSegmentCall, intersectsBoxCall}
 use Rattle.whole.specs.Plane.{WholePlane}
-use Rattle.farmgrid.specs.FarmGrid.{SegmentPlane, AxisPlane, WholeBox, exactly, InView, Share, SegmentInView, BoxInView}
+use Rattle.exact.specs.ExactPoint.{InView, BoxInView}
+use Rattle.farmgrid.specs.FarmGrid.{SegmentPlane, AxisPlane, WholeBox, lowOf, highOf, exactly, Share, SegmentInView}
 use Rattle.farmgrid.specs.Records.{PointRecord, ViewRecord, BoxRecord, Settled}
 
 -- For segment planes and a grid point the verdict is yes exactly where the point satisfies all planes.
@@ -24,4 +25,4 @@ SegmentExact =
 abbrev pub BoxExact : Type 0
 BoxExact =
     (v b : List Float) (Ps : List WholePlane) (B : WholeBox)
-    → ViewRecord AxisPlane v Ps → Share Ps → BoxRecord b B → Settled (intersectsBoxCall v b) (BoxInView Ps B)
+    → ViewRecord AxisPlane v Ps → Share Ps → BoxRecord b B → Settled (intersectsBoxCall v b) (BoxInView Ps (lowOf B) (highOf B))

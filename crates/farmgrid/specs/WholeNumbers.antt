@@ -15,7 +15,8 @@ use Rattle.verdict.specs.View.{rayCount}
 use Rattle.verdict.specs.FrustumCalls.{intersectsSegmentCall}
 use Rattle.farmgrid.specs.Whole.{Whole}
 use Rattle.farmgrid.specs.Placement.{GridPoint}
-use Rattle.farmgrid.specs.FarmGrid.{SegmentPlane, Every, SegmentInView}
+use Rattle.exact.specs.ExactPoint.{Every}
+use Rattle.farmgrid.specs.FarmGrid.{SegmentPlane, SegmentInView}
 use Rattle.farmgrid.specs.Records.{PointRecord, ViewRecord, Settled}
 
 -- ---- records of whole numbers

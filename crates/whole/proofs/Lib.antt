@@ -1,5 +1,6 @@
 -- The laws that the proofs of this crate, and of the crates above it, cite.
 pub mod Integer
+pub mod Dot
 pub mod Registers
 pub mod Limits
 pub mod Gaps

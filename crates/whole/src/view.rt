@@ -1,10 +1,11 @@
 // A view in whole numbers, as it is lent: how many planes it has, then the planes. What knows its layout is here, and the grid's limits.
 ghost use mathlib.Core.Path.{_≡_};
-ghost use mathlib.Core.Bool.{true};
+ghost use mathlib.Core.Bool.{true, _&&_};
 ghost use Prim.Native.Nat.{_+_, _<_, _≤_};
+ghost use lib.Dec.{leb};
 ghost use lib.ListN.{length};
 ghost use Rattle.number.specs.Every.{every};
-ghost use Rattle.number.specs.Limits.{distanceLimit};
+ghost use Rattle.number.specs.Limits.{gridLimit, distanceLimit};
 ghost use Rattle.whole.specs.Plane.{gap};
 ghost use Rattle.whole.specs.SegmentCall.{pointOf, planeStart, planeAt, planesOf, viewLength, countOf, within, pointWithin, planeWithin};
 use number::limits::GRID_LIMIT;
@@ -15,7 +16,7 @@ const NORMAL_LIMIT: u32 = 128;
 const DISTANCE_LIMIT: u32 = 16_777_216;
 
 // How many planes the number in front says there are.
-pub(crate) fn count_of(x: i32) -> u32
+pub fn count_of(x: i32) -> u32
     ensures { λ r. ⌜ r ≡ countOf x ⌝ }
 {
     if x < 0 {
@@ -25,7 +26,7 @@ pub(crate) fn count_of(x: i32) -> u32
 }
 
 // How many numbers a view of so many planes has, which is where the next plane would begin.
-pub(crate) fn view_length(count: u32) -> usize
+pub fn view_length(count: u32) -> usize
     ensures { λ r. ⌜ r ≡ viewLength count ⌝ }
 {
     1 + count as usize * 4
@@ -38,6 +39,13 @@ fn within(x: i32, limit: u32) -> bool
 {
     let most = limit as i32;
     (-most <= x) & (x <= most)
+}
+
+// Whether a coordinate is on the grid.
+pub fn on_grid(x: i32) -> bool
+    ensures { λ r. ⌜ r ≡ within gridLimit x ⌝ }
+{
+    within(x, GRID_LIMIT as u32)
 }
 
 // Whether a point is on the grid.
@@ -74,6 +82,16 @@ pub(crate) fn planes_within(view: &[i32], count: u32) -> bool
         i += 1;
     }
     true
+}
+
+// Whether a view has so many planes, and every one is a segment plane.
+pub fn segment_planes(view: &[i32], count: u32) -> bool
+    ensures { λ r. ⌜ r ≡ (leb (viewLength count) (length (now (view .entry))) && every planeWithin (planesOf (now (view .entry)) count)) ⌝ }
+{
+    if view.len() < view_length(count) {
+        return false;
+    }
+    planes_within(view, count)
 }
 
 // How far in front of a plane a point lies, both on the grid.
