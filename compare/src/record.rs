@@ -117,7 +117,7 @@ mod tests {
     fn the_example_orchard_is_kept_and_shown() {
         let file = kept("crates/farm_file/stdin");
         assert_eq!(reader::lines(&file).as_bytes(), kept("crates/farm_file/stdout"));
-        let made = Command::new(project("examples/farm-file")).arg(project("examples/orchard.farm")).output();
+        let made = Command::new(project("office/farm-file")).arg(project("examples/orchard.farm")).output();
         assert!(made.expect("python3 runs").stdout == file);
         let page = String::from_utf8(kept("docs/FARM_FILE.md")).expect("it is text");
         let shown = page.lines().filter_map(|line| line.strip_prefix("    000000")).map(|line| &line[4..43]);

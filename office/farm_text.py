@@ -1,11 +1,7 @@
-#!/usr/bin/env python3
-"""Makes a farm file of readable text.
+"""A farm's readable text: what it says of the view and of each block, their names, and the farm file that it makes.
 
-    farm-file TEXT [FILE]     writes the farm file to FILE, or to standard output
-    farm-file --names TEXT    prints the number of each block, as the program farm_file does, and its name
-
-TEXT is the name of a text file, or - for standard input. docs/FARM_FILE.md has the form of the text and of the farm file;
-examples/orchard.farm is an example. What is wrong in the text is named with its line. Only the standard library is used.
+docs/FARM_FILE.md has the form of the text and of the farm file. What is wrong in a text is raised as Wrong, with its line. The
+office's tools share this module; it uses the standard library alone.
 """
 import math
 import struct
@@ -146,26 +142,11 @@ def farm_file(text):
     return whole
 
 
-def main():
-    words = sys.argv[1:]
-    names = words[:1] == ["--names"]
-    words = words[names:]
-    if len(words) not in ((1,) if names else (1, 2)) or words[0].startswith("--"):
-        sys.exit(__doc__.strip())
-    source = words[0]
-    try:
-        text = sys.stdin.read() if source == "-" else Path(source).read_text(encoding="utf-8")
-        made = farm_file(text)
-    except (Wrong, OSError, UnicodeDecodeError) as problem:
-        sys.exit(f"farm-file: {source}: {problem}")
-    if names:
-        for number, section in enumerate(sections(text)[0][1:], 1):
-            print(number, section.name)
-    elif len(words) == 2:
-        Path(words[1]).write_bytes(made)
-    else:
-        sys.stdout.buffer.write(made)
+def names(text):
+    """The number of each block, as the programs print it, and its name."""
+    return [(number, section.name) for number, section in enumerate(sections(text)[0][1:], 1)]
 
 
-if __name__ == "__main__":
-    main()
+def read(source):
+    """The text of a file, or of standard input where the source is -."""
+    return sys.stdin.read() if source == "-" else Path(source).read_text(encoding="utf-8")
