@@ -1,8 +1,8 @@
 /* Nugyarvit's geometry operations for C and C++, on x86-64.
  *
- * Link target/staticlib/libgf.a, which `rt staticlib gf` makes. It needs memcpy of the C library and nothing else. Every
- * function is proved to meet its contract (crates/gf/src), for all lengths and all numbers. The functions keep nothing from
- * call to call, so that threads may call them at once.
+ * Link libgf.a, which `rt staticlib gf` makes; once it is installed, `pkg-config --cflags --libs gf` names both. It needs memcpy
+ * and memset of the C library and nothing else. Every function is proved to meet its contract (crates/gf/src), for all lengths
+ * and all numbers. The functions keep nothing from call to call, so that threads may call them at once.
  *
  * What is lent. A slice is two parameters: a pointer, and a length counted in what it points to: numbers (double), whole numbers
  * (int32_t), the bytes of a farm file, or slots (uint32_t). The caller owes, and nothing tests:
@@ -72,6 +72,9 @@
 
 #include <stddef.h>
 #include <stdint.h>
+
+/* The second number rises with each change of what a function takes or answers, the third with any other. */
+#define GF_VERSION "0.13.0"
 
 /* The limits of a volume's count of planes, and of a view's. */
 #define GF_FEWEST_PLANES 6
