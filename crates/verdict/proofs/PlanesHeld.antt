@@ -76,3 +76,7 @@ held s n e = go (leb (volumeLength fewestPlanes) (length s)) (planeCountOf (at s
 
 pub has-planes : {s : List Float} {n : ℕ} → IsView s n → HasPlanes s n
 has-planes h = (h .most, omega (arith, h .numbers))
+
+-- the original planes among them
+pub has-original : {s : List Float} {n : ℕ} → IsView s n → HasPlanes s fewestPlanes
+has-original h = (omega arith, omega (arith, h .fewest, h .numbers))

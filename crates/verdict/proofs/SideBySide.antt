@@ -40,6 +40,7 @@ same-plane f g h =
     λ t. plane (record { x = x t; y = y t; z = z t }) (d t)
 
 pub planes-equal : PlanesEqual
+unfolding InRows
 planes-equal v l n i h below = same-plane (λ j. at l (rowPlace j i)) (λ j. at v (planeStart i + j)) (λ j. h i j below)
 
 pub same-planes : (v l : List Float) (n : ℕ) → InRows v n l → planesInRows l n ≡ planesOf v n
@@ -119,6 +120,7 @@ module _ (l : List Float) (i : ℕ) (p : Plane) where
     own (suc (suc (suc (suc j)))) h = absurd (omega arith)
 
     pub one-more : (v : List Float) → InRows v i l → p ≡ planeAt v i → InRows v (i + 1) with-plane
+    unfolding InRows
     one-more v h e k j below in-plane = ⊎-elim here before (eq-or-lt-of-le (omega arith))
       where
         here : k ≡ i → at with-plane (rowPlace j k) ≡ at v (planeStart k + j)
@@ -130,6 +132,7 @@ module _ (l : List Float) (i : ℕ) (p : Plane) where
 
 -- before the first plane
 pub nothing-held : (v l : List Float) → InRows v 0 l
+unfolding InRows
 nothing-held v l i j h = absurd (omega arith)
 
 -- ---- what a record that holds n planes leaves

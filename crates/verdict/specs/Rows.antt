@@ -21,7 +21,7 @@ abbrev pub rowPlace : ℕ → ℕ → ℕ
 rowPlace j i = i + j * mostPlanes
 
 -- The rows l hold the first n planes of the record v: each number of these stands in its row. What stands in the places behind them is free.
-abbrev pub InRows : List Float → ℕ → List Float → Type 0
+unfoldable pub InRows : List Float → ℕ → List Float → Type 0
 InRows v n l = (i j : ℕ) → i < n → j < planeLength → at l (rowPlace j i) ≡ at v (planeStart i + j)
 
 -- What a record leaves in a slice that it is loaded into, by how many planes it holds, and by whether the slice has room for just the rows: these, or what it held before.

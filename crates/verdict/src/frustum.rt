@@ -7,10 +7,12 @@ ghost use Rattle.number.specs.Limits.{boxLength, mostPlanes};
 ghost use Rattle.number.specs.Answer.{has};
 ghost use Rattle.matrix.specs.Constants.{positiveZero, one};
 ghost use Rattle.verdict.specs.BBox.{boxOf};
+ghost use Rattle.verdict.specs.View.{planesOf};
 ghost use Rattle.verdict.specs.Rows.{planesInRows};
-ghost use Rattle.verdict.specs.Steps.Passes.{sidesOf};
+ghost use Rattle.verdict.specs.Steps.Passes.{HasPlanes, sidesOf};
 ghost use Rattle.verdict.specs.Frustum.{pointInView, crossing, startCut, endCut, spanLeft, segmentInView, intoSpaceOf, boxInView};
 use crate::bbox::BBox3d;
+use crate::gathered;
 use crate::plane::Plane;
 use crate::reach::holds_origin;
 use crate::rows::Rows;
@@ -23,8 +25,8 @@ use number::limits::FEWEST_PLANES;
 use number::limits::MOST_PLANES;
 use number::order;
 
-// Whether a point is on the positive side of every plane.
-pub(crate) fn intersects_point(rows: &Rows, count: u32, p: Vec3d) -> bool
+// Whether a point is on the positive side of the first planes.
+pub(crate) fn holds_point(rows: &Rows, count: u32, p: Vec3d) -> bool
     requires { ⌜ count ≤ mostPlanes ⌝ }
     ensures { λ r. ⌜ r ≡ pointInView (planesInRows (now (rows .entry)) count) p ⌝ }
 {
@@ -120,10 +122,21 @@ pub(crate) fn span_left(
     true
 }
 
+// Whether a point is on the positive side of every plane of a record. The fewest are passed by a count that the compiler knows.
+pub(crate) fn intersects_point(view: &[f64], count: u32, p: Vec3d) -> bool
+    requires { ⌜ HasPlanes (now view) count ⌝ }
+    ensures { λ r. ⌜ r ≡ pointInView (planesOf (now (view .entry)) count) p ⌝ }
+{
+    if count == FEWEST_PLANES {
+        return gathered::holds_point(view, FEWEST_PLANES, p);
+    }
+    gathered::holds_point(view, count, p)
+}
+
 // Whether some of a segment is on the positive side of the first planes, by those that have an end there.
-fn segment_left(rows: &Rows, count: u32, a: Vec3d, a_sides: u64, b: Vec3d, b_sides: u64) -> bool
-    requires { ⌜ (count ≤ mostPlanes) × («a_sides» ≡ sidesOf (planesInRows (now rows) count) a) × («b_sides» ≡ sidesOf (planesInRows (now rows) count) b) ⌝ }
-    ensures { λ r. ⌜ r ≡ segmentInView (planesInRows (now (rows .entry)) count) a b ⌝ }
+fn segment_left(view: &[f64], count: u32, a: Vec3d, a_sides: u64, b: Vec3d, b_sides: u64) -> bool
+    requires { ⌜ HasPlanes (now view) count × («a_sides» ≡ sidesOf (planesOf (now view) count) a) × («b_sides» ≡ sidesOf (planesOf (now view) count) b) ⌝ }
+    ensures { λ r. ⌜ r ≡ segmentInView (planesOf (now (view .entry)) count) a b ⌝ }
 {
     let all = all_planes(count);
     if a_sides | b_sides != all {
@@ -132,22 +145,22 @@ fn segment_left(rows: &Rows, count: u32, a: Vec3d, a_sides: u64, b: Vec3d, b_sid
     if (a_sides == all) | (b_sides == all) {
         return true;
     }
-    span_left(rows, count, a, a_sides, b, b_sides)
+    gathered::span_left(view, count, a, a_sides, b, b_sides)
 }
 
-// Whether some of a segment is on the positive side of every plane. The fewest are passed by a count that the compiler knows.
-pub(crate) fn intersects_segment(rows: &Rows, count: u32, a: Vec3d, b: Vec3d) -> bool
-    requires { ⌜ count ≤ mostPlanes ⌝ }
-    ensures { λ r. ⌜ r ≡ segmentInView (planesInRows (now (rows .entry)) count) a b ⌝ }
+// Whether some of a segment is on the positive side of every plane, in the same way.
+pub(crate) fn intersects_segment(view: &[f64], count: u32, a: Vec3d, b: Vec3d) -> bool
+    requires { ⌜ HasPlanes (now view) count ⌝ }
+    ensures { λ r. ⌜ r ≡ segmentInView (planesOf (now (view .entry)) count) a b ⌝ }
 {
     if count == FEWEST_PLANES {
-        let a_sides = sides_within(rows, FEWEST_PLANES, a);
-        let b_sides = sides_within(rows, FEWEST_PLANES, b);
-        return segment_left(rows, FEWEST_PLANES, a, a_sides, b, b_sides);
+        let a_sides = gathered::sides(view, FEWEST_PLANES, a);
+        let b_sides = gathered::sides(view, FEWEST_PLANES, b);
+        return segment_left(view, FEWEST_PLANES, a, a_sides, b, b_sides);
     }
-    let a_sides = sides_within(rows, count, a);
-    let b_sides = sides_within(rows, count, b);
-    segment_left(rows, count, a, a_sides, b, b_sides)
+    let a_sides = gathered::sides(view, count, a);
+    let b_sides = gathered::sides(view, count, b);
+    segment_left(view, count, a, a_sides, b, b_sides)
 }
 
 // The matrix that carries planes into the space of a box; a degenerate box is taken as if its matrix were the identity.

@@ -10,6 +10,7 @@ use crate::rows::ROWS_LENGTH;
 use crate::rows::load;
 use crate::triangle;
 use crate::view::Held;
+use crate::view::planes_held;
 use matrix::matrix::Mat4d;
 use matrix::vec::Vec3d;
 use number::answer::Refusal;
@@ -24,13 +25,12 @@ pub fn intersects_point(volume: &[f64], p: &[f64]) -> Verdict
     if p.len() != 3 {
         return Verdict::Refused(Refusal::InputLength);
     }
-    let mut rows = [0.0f64; ROWS_LENGTH];
-    match load(volume, &mut rows) {
+    match planes_held(volume) {
         Held::Planes(count) => {
             if !(all_finite(volume) & all_finite(p)) {
                 return Verdict::Refused(Refusal::MissingNumber);
             }
-            Verdict::of(frustum::intersects_point(&rows, count, Vec3d::load(p)))
+            Verdict::of(frustum::intersects_point(volume, count, Vec3d::load(p)))
         }
         Held::Refused(refusal) => Verdict::Refused(refusal),
     }
@@ -43,13 +43,17 @@ pub fn intersects_segment(volume: &[f64], p0: &[f64], p1: &[f64]) -> Verdict
     if !((p0.len() == 3) & (p1.len() == 3)) {
         return Verdict::Refused(Refusal::InputLength);
     }
-    let mut rows = [0.0f64; ROWS_LENGTH];
-    match load(volume, &mut rows) {
+    match planes_held(volume) {
         Held::Planes(count) => {
             if !(all_finite(volume) & (all_finite(p0) & all_finite(p1))) {
                 return Verdict::Refused(Refusal::MissingNumber);
             }
-            Verdict::of(frustum::intersects_segment(&rows, count, Vec3d::load(p0), Vec3d::load(p1)))
+            Verdict::of(frustum::intersects_segment(
+                volume,
+                count,
+                Vec3d::load(p0),
+                Vec3d::load(p1),
+            ))
         }
         Held::Refused(refusal) => Verdict::Refused(refusal),
     }
@@ -84,14 +88,12 @@ pub fn intersects_triangle(volume: &[f64], p0: &[f64], p1: &[f64], p2: &[f64]) -
     if !((p0.len() == 3) & (p1.len() == 3) & (p2.len() == 3)) {
         return Verdict::Refused(Refusal::InputLength);
     }
-    let mut rows = [0.0f64; ROWS_LENGTH];
-    match load(volume, &mut rows) {
+    match planes_held(volume) {
         Held::Planes(count) => {
             if !(all_finite(volume) & (all_finite(p0) & (all_finite(p1) & all_finite(p2)))) {
                 return Verdict::Refused(Refusal::MissingNumber);
             }
             Verdict::of(triangle::intersects_triangle(
-                &rows,
                 volume,
                 count,
                 Vec3d::load(p0),

@@ -4,6 +4,7 @@ pub mod bbox_calls;
 pub mod clip;
 pub mod frustum;
 pub mod frustum_calls;
+mod gathered;
 mod interval;
 pub mod plane;
 pub mod plane_calls;

@@ -44,7 +44,7 @@ pub(crate) fn plane_in(rows: &Rows, i: u32) -> Plane
 }
 
 // The first planes of a record, each to its place.
-fn gather(view: &[f64], count: u32, rows: &mut [f64])
+pub(crate) fn gather(view: &[f64], count: u32, rows: &mut [f64])
     requires { ⌜ HasPlanes (now view) count × (length (now rows) ≡ rowsLength) ⌝ }
     ensures { λ _. ⌜ InRows (now (view .entry)) count (now (rows .exit)) ⌝ }
 {

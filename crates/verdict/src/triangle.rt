@@ -5,15 +5,12 @@ ghost use Prim.Native.Nat.{_≤_};
 ghost use Rattle.number.specs.Limits.{fewestPlanes};
 ghost use lib.ListN.{take};
 ghost use Rattle.verdict.specs.Ray.{triangleHit};
-ghost use Rattle.verdict.specs.View.{rayCount, raysOf};
-ghost use Rattle.verdict.specs.Rows.{planesInRows};
-ghost use Rattle.verdict.specs.Steps.Passes.{IsView, sidesOf, sideLeft, nearAndFarIn};
+ghost use Rattle.verdict.specs.View.{rayCount, planesOf, raysOf};
+ghost use Rattle.verdict.specs.Steps.Passes.{IsView, HasPlanes, sidesOf, sideLeft, nearAndFarIn};
 ghost use Rattle.verdict.specs.Frustum.{isHit, someHit, triangleInView};
-use crate::frustum::sides_within;
-use crate::frustum::span_left;
+use crate::gathered;
 use crate::ray::Ray;
 use crate::ray::TriangleHit;
-use crate::rows::Rows;
 use crate::view::NEAR_PLANE;
 use crate::view::ORIGINAL_PLANES;
 use crate::view::RAY_COUNT;
@@ -22,14 +19,14 @@ use matrix::vec::Vec3d;
 use number::limits::FEWEST_PLANES;
 
 // Whether some of a side is in view, of which both ends are outside.
-fn side_in_view(rows: &Rows, a: Vec3d, a_sides: u64, b: Vec3d, b_sides: u64) -> bool
-    requires { ⌜ («a_sides» ≡ sidesOf (planesInRows (now rows) fewestPlanes) a) × («b_sides» ≡ sidesOf (planesInRows (now rows) fewestPlanes) b) ⌝ }
-    ensures { λ r. ⌜ r ≡ sideLeft (planesInRows (now (rows .entry)) fewestPlanes) a b ⌝ }
+fn side_in_view(view: &[f64], a: Vec3d, a_sides: u64, b: Vec3d, b_sides: u64) -> bool
+    requires { ⌜ HasPlanes (now view) fewestPlanes × («a_sides» ≡ sidesOf (planesOf (now view) fewestPlanes) a) × («b_sides» ≡ sidesOf (planesOf (now view) fewestPlanes) b) ⌝ }
+    ensures { λ r. ⌜ r ≡ sideLeft (planesOf (now (view .entry)) fewestPlanes) a b ⌝ }
 {
     if a_sides | b_sides != ORIGINAL_PLANES {
         return false;
     }
-    span_left(rows, FEWEST_PLANES, a, a_sides, b, b_sides)
+    gathered::span_left(view, FEWEST_PLANES, a, a_sides, b, b_sides)
 }
 
 // How many lines of sight are tried, by the planes that have all three points on their positive side: one where the near and the
@@ -74,33 +71,26 @@ fn line_meets(view: &[f64], count: u32, lines: u32, p0: Vec3d, p1: Vec3d, p2: Ve
 }
 
 // Whether a triangle is in view, by the original planes: a corner is, or some of a side, or it surrounds the view, so that one of the record's rays meets it.
-pub(crate) fn intersects_triangle(
-    rows: &Rows,
-    view: &[f64],
-    count: u32,
-    p0: Vec3d,
-    p1: Vec3d,
-    p2: Vec3d,
-) -> bool
+pub(crate) fn intersects_triangle(view: &[f64], count: u32, p0: Vec3d, p1: Vec3d, p2: Vec3d) -> bool
     requires { ⌜ IsView (now view) count ⌝ }
-    ensures { λ r. ⌜ r ≡ triangleInView (planesInRows (now (rows .entry)) count) (raysOf (now (view .entry)) count) p0 p1 p2 ⌝ }
+    ensures { λ r. ⌜ r ≡ triangleInView (planesOf (now (view .entry)) count) (raysOf (now (view .entry)) count) p0 p1 p2 ⌝ }
 {
-    let sides0 = sides_within(rows, FEWEST_PLANES, p0);
-    let sides1 = sides_within(rows, FEWEST_PLANES, p1);
-    let sides2 = sides_within(rows, FEWEST_PLANES, p2);
+    let sides0 = gathered::sides(view, FEWEST_PLANES, p0);
+    let sides1 = gathered::sides(view, FEWEST_PLANES, p1);
+    let sides2 = gathered::sides(view, FEWEST_PLANES, p2);
     if sides0 | sides1 | sides2 != ORIGINAL_PLANES {
         return false;
     }
     if (sides0 == ORIGINAL_PLANES) | (sides1 == ORIGINAL_PLANES) | (sides2 == ORIGINAL_PLANES) {
         return true;
     }
-    if side_in_view(rows, p0, sides0, p1, sides1) {
+    if side_in_view(view, p0, sides0, p1, sides1) {
         return true;
     }
-    if side_in_view(rows, p1, sides1, p2, sides2) {
+    if side_in_view(view, p1, sides1, p2, sides2) {
         return true;
     }
-    if side_in_view(rows, p2, sides2, p0, sides0) {
+    if side_in_view(view, p2, sides2, p0, sides0) {
         return true;
     }
     line_meets(

@@ -1,30 +1,33 @@
 -- `frustum::intersects_segment` meets its contract: by either way it asks the planes that are counted. Assumes nothing.
-use mathlib.Core.Path.{sym, ap, _∙_}
+use mathlib.Core.Path.{sym, ap, subst, _∙_}
 use Prim.Native.Nat.{ℕ}
-use native.Mathlib.Omega.{arith}
 use borrow.Author.Needs.{needs}
-use Rattle.verdict.specs.Rows.{planesInRows}
+use Rattle.verdict.specs.View.{planesOf}
 use Rattle.verdict.specs.Frustum.{segmentInView}
+use Rattle.verdict.specs.Steps.Passes.{HasPlanes}
 use Rattle.verdict.proofs.frustum.intersects_segment.Statement.{statement}
 use Rattle.verdict.proofs.frustum.intersects_segment.Tie as tie
 
-fewest : tie.Need-sides-within-requires
-fewest c κs = omega arith
+fewest : tie.Need-sides-requires
+fewest c κs = let start = c .before .before in subst (HasPlanes (start .args .view .now)) (c .if1 .taken) (start .pre)
 
-fewest-2 : tie.Need-sides-within-requires-2
-fewest-2 c κs = omega arith
+fewest-2 : tie.Need-sides-requires-2
+fewest-2 c κs = let six = c .before in let start = six .before .before in subst (HasPlanes (start .args .view .now)) (six .if1 .taken) (start .pre)
 
 fewest-left : tie.Need-segment-left-requires
-fewest-left c κs = (omega arith, c .before .sides-within .ensures, c .sides-within2 .ensures)
+fewest-left c κs =
+    let six = c .before .before in
+    let start = six .before .before in
+    (subst (HasPlanes (start .args .view .now)) (six .if1 .taken) (start .pre), c .before .sides .ensures, c .sides2 .ensures)
 
 returns : tie.Need-returns
 returns c =
     let six = c .before .before .before in
-    let g = six .before .args in
-    c .segment-left .ensures ∙ ap (λ (n : ℕ). segmentInView (planesInRows (g .rows .now) n) (g .a) (g .b)) (sym (six .if1 .taken))
+    let g = six .before .before .args in
+    c .segment-left .ensures ∙ ap (λ (n : ℕ). segmentInView (planesOf (g .view .now) n) (g .a) (g .b)) (sym (six .if1 .taken))
 
 left : tie.Need-segment-left-requires-2
-left c κs = let first = c .before in (first .before .before .pre, first .sides-within3 .ensures, c .sides-within4 .ensures)
+left c κs = let first = c .before in (first .before .before .before .pre, first .sides3 .ensures, c .sides4 .ensures)
 
 returns-2 : tie.Need-returns-2
 returns-2 c = c .segment-left2 .ensures

@@ -1,13 +1,11 @@
 -- `frustum_calls::intersects_segment` meets its contract: the lengths, the volume and the numbers by their tests, the result by what it calls. Assumes nothing.
-use mathlib.Core.Path.{refl, sym, ap, _∙_}
+use mathlib.Core.Path.{refl, sym, ap, ap₂, _∙_}
 use borrow.Author.Needs.{needs}
 use borrow.Author.Tests.{not-true, not-false}
 use Rattle.number.specs.Answer.{result}
-use Rattle.verdict.specs.View.{heldOf}
+use Rattle.verdict.specs.View.{heldOf, planesOf}
 use Rattle.verdict.specs.Frustum.{segmentInView}
-use Rattle.verdict.proofs.PlanesHeld.{held}
-use Rattle.verdict.proofs.Same.{same-three}
-use Rattle.verdict.proofs.SideBySide.{planes-held-in}
+use Rattle.verdict.proofs.PlanesHeld.{held, has-planes}
 use Rattle.verdict.proofs.VerdictChecks.{two-inputs, last-record, next-record, wrong-length, not-held, not-finite, answered}
 use Rattle.verdict.proofs.VerdictCalls.{segment-call}
 use Rattle.verdict.proofs.frustum_calls.intersects_segment.Statement.{statement}
@@ -18,8 +16,8 @@ returns c = let a = c .before .before .before .before .args in wrong-length _ _ 
 
 intersects-segment-requires : tie.Need-intersects-segment-requires
 intersects-segment-requires c κs =
-    let known = c .before .before .before .before .before .before .before .before in
-    held _ _ (ap heldOf (sym (known .count .given .1)) ∙ known .before .before .before .load .ensures .0) .most
+    let known = c .before .before .before .before .before .before .before in
+    has-planes (held _ _ (ap heldOf (sym (known .count .given .1)) ∙ known .before .before .planes-held .ensures))
 
 returns-2 : tie.Need-returns-2
 returns-2 c =
@@ -27,9 +25,9 @@ returns-2 c =
     let second = third .before in
     let first = second .before in
     let known = first .before .before in
-    let counted = known .before .before .before in
-    let a = counted .before .before .before .before .before .before .args in
-    not-finite _ _ _ _ _ (two-inputs 3 (a .p0 .now) 3 (a .p1 .now) ∙ not-false _ (counted .before .before .if1 .left)) _ (ap heldOf (sym (known .count .given .1)) ∙ counted .load .ensures .0) refl
+    let counted = known .before .before in
+    let a = counted .before .before .before .before .before .args in
+    not-finite _ _ _ _ _ (two-inputs 3 (a .p0 .now) 3 (a .p1 .now) ∙ not-false _ (counted .before .if1 .left)) _ (ap heldOf (sym (known .count .given .1)) ∙ counted .planes-held .ensures) refl
     (sym (next-record _ (first .all-finite .ensures) _ (next-record _ (second .all-finite2 .ensures) _ (last-record _ (third .all-finite3 .ensures)))) ∙ not-true _ (c .if2 .taken))
     ∙ segment-call (a .volume .now) (a .p0 .now) (a .p1 .now)
 
@@ -38,29 +36,29 @@ returns-3 c =
     let asked = c .before in
     let end = asked .before in
     let start = end .before in
-    let e = start .before .before in
+    let e = start .before in
     let third = e .before in
     let second = third .before in
     let first = second .before in
     let known = first .before .before in
-    let counted = known .before .before .before in
-    let a = counted .before .before .before .before .before .before .args in
-    answered _ _ _ _ _ (two-inputs 3 (a .p0 .now) 3 (a .p1 .now) ∙ not-false _ (counted .before .before .if1 .left)) _ (ap heldOf (sym (known .count .given .1)) ∙ counted .load .ensures .0) refl
+    let counted = known .before .before in
+    let a = counted .before .before .before .before .before .args in
+    answered _ _ _ _ _ (two-inputs 3 (a .p0 .now) 3 (a .p1 .now) ∙ not-false _ (counted .before .if1 .left)) _ (ap heldOf (sym (known .count .given .1)) ∙ counted .planes-held .ensures) refl
     (sym (next-record _ (first .all-finite .ensures) _ (next-record _ (second .all-finite2 .ensures) _ (last-record _ (third .all-finite3 .ensures)))) ∙ not-false _ (e .if2 .left)) _
-    (c .of .ensures ∙ ap result (asked .intersects-segment .ensures ∙ same-three segmentInView (planes-held-in (known .count .given .0 .0) (a .volume .now) _ _ (ap heldOf (sym (known .count .given .1))) (counted .load .ensures .1)) (start .load2 .ensures) (end .load3 .ensures)))
+    (c .of .ensures ∙ ap result (asked .intersects-segment .ensures ∙ ap₂ (segmentInView (planesOf (a .volume .now) (known .count .given .0 .0))) (start .load .ensures) (end .load2 .ensures)))
     ∙ segment-call (a .volume .now) (a .p0 .now) (a .p1 .now)
 
 returns-4 : tie.Need-returns-4
 returns-4 c =
     let known = c .before in
-    let counted = known .before .before .before in
-    let a = counted .before .before .before .before .before .before .args in
-    not-held _ _ _ _ _ (two-inputs 3 (a .p0 .now) 3 (a .p1 .now) ∙ not-false _ (counted .before .before .if1 .left)) _ (ap heldOf (sym (known .refusal .given .1)) ∙ counted .load .ensures .0)
+    let counted = known .before .before in
+    let a = counted .before .before .before .before .before .args in
+    not-held _ _ _ _ _ (two-inputs 3 (a .p0 .now) 3 (a .p1 .now) ∙ not-false _ (counted .before .if1 .left)) _ (ap heldOf (sym (known .refusal .given .1)) ∙ counted .planes-held .ensures)
     ∙ segment-call (a .volume .now) (a .p0 .now) (a .p1 .now)
 
 pub intersects-segment-spec : {M : Type 1} → statement M
 intersects-segment-spec =
     tie.close
     (tie.spec
-    returns (λ c. search needs) (λ c κs. tt) (λ c. search needs) (λ c κs. search needs) (λ c κs. search needs) (λ c κs. search needs) returns-2
+    returns (λ c κs. search needs) (λ c. search needs) (λ c κs. search needs) (λ c κs. search needs) (λ c κs. search needs) returns-2
     (λ c κs. search needs) (λ c κs. search needs) intersects-segment-requires (λ c κs. search needs) (λ c. search needs) returns-3 returns-4)

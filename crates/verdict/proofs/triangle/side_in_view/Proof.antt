@@ -9,7 +9,7 @@ use Rattle.number.specs.Every.{every}
 use Rattle.matrix.specs.Constants.{positiveZero, one}
 use Rattle.matrix.specs.declared.vec.Vec3d.{Vec3d}
 use Rattle.verdict.specs.declared.plane.Plane.{Plane}
-use Rattle.verdict.specs.Rows.{planeInRows, planesInRows}
+use Rattle.verdict.specs.View.{planeAt, planesOf}
 use Rattle.verdict.specs.Frustum.{hasEnd, spanLeft}
 use Rattle.verdict.specs.Steps.Passes.{sideLeft}
 use Rattle.verdict.proofs.ViewLists.{plane-count}
@@ -22,18 +22,18 @@ settled ps a b x w n p = sym (λ t. n t && sym p t)
 
 returns : tie.Need-returns
 returns c =
-    let start = c .before in
+    let start = c .before .before in
     let g = start .args in
-    settled (planesInRows (g .rows .now) fewestPlanes) (g .a) (g .b) false _
-    (some-end (planesInRows (g .rows .now) fewestPlanes) fewestPlanes (plane-count (planeInRows (g .rows .now)) fewestPlanes) (g .a) (g .b) _ _ (start .pre .0) (start .pre .1) ∙ ne-eqb _ _ (c .if1 .taken)) refl
+    settled (planesOf (g .view .now) fewestPlanes) (g .a) (g .b) false _
+    (some-end (planesOf (g .view .now) fewestPlanes) fewestPlanes (plane-count (planeAt (g .view .now)) fewestPlanes) (g .a) (g .b) _ _ (start .pre .1) (start .pre .2) ∙ ne-eqb _ _ (c .if1 .taken)) refl
 
 returns-2 : tie.Need-returns-2
 returns-2 c =
     let some = c .before in
-    let start = some .before in
+    let start = some .before .before in
     let g = start .args in
-    settled (planesInRows (g .rows .now) fewestPlanes) (g .a) (g .b) true _
-    (some-end (planesInRows (g .rows .now) fewestPlanes) fewestPlanes (plane-count (planeInRows (g .rows .now)) fewestPlanes) (g .a) (g .b) _ _ (start .pre .0) (start .pre .1) ∙ eq-eqb _ _ (some .if1 .left)) (c .span-left .ensures)
+    settled (planesOf (g .view .now) fewestPlanes) (g .a) (g .b) true _
+    (some-end (planesOf (g .view .now) fewestPlanes) fewestPlanes (plane-count (planeAt (g .view .now)) fewestPlanes) (g .a) (g .b) _ _ (start .pre .1) (start .pre .2) ∙ eq-eqb _ _ (some .if1 .left)) (c .span-left .ensures)
 
 pub side-in-view-spec : {M : Type 1} → statement M
 side-in-view-spec = tie.close (tie.spec returns (λ c κs. search needs) returns-2)
