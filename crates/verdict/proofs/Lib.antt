@@ -10,6 +10,7 @@ pub mod PlaneCount
 pub mod PlanesHeld
 pub mod ViewLists
 pub mod SideBySide
+pub mod ZerosKept
 pub mod PlanesLeft
 pub mod Constants
 pub mod ReachSum

@@ -158,9 +158,8 @@ pub(crate) fn intersects_segment(view: &[f64], count: u32, a: Vec3d, b: Vec3d) -
         let b_sides = gathered::sides(view, FEWEST_PLANES, b);
         return segment_left(view, FEWEST_PLANES, a, a_sides, b, b_sides);
     }
-    let a_sides = gathered::sides(view, count, a);
-    let b_sides = gathered::sides(view, count, b);
-    segment_left(view, count, a, a_sides, b, b_sides)
+    let sides = gathered::end_sides(view, count, a, b);
+    segment_left(view, count, a, sides.a, b, sides.b)
 }
 
 // The matrix that carries planes into the space of a box; a degenerate box is taken as if its matrix were the identity.

@@ -5,6 +5,7 @@ ghost use Rattle.verdict.specs.FrustumCalls.{intersectsPointCall, inters
 use crate::bbox::BBox3d;
 use crate::bbox::is_flag;
 use crate::clip;
+use crate::finite::all_numbers_finite;
 use crate::frustum;
 use crate::rows::ROWS_LENGTH;
 use crate::rows::load;
@@ -27,7 +28,7 @@ pub fn intersects_point(volume: &[f64], p: &[f64]) -> Verdict
     }
     match planes_held(volume) {
         Held::Planes(count) => {
-            if !(all_finite(volume) & all_finite(p)) {
+            if !(all_numbers_finite(volume, count) & all_finite(p)) {
                 return Verdict::Refused(Refusal::MissingNumber);
             }
             Verdict::of(frustum::intersects_point(volume, count, Vec3d::load(p)))
@@ -45,7 +46,7 @@ pub fn intersects_segment(volume: &[f64], p0: &[f64], p1: &[f64]) -> Verdict
     }
     match planes_held(volume) {
         Held::Planes(count) => {
-            if !(all_finite(volume) & (all_finite(p0) & all_finite(p1))) {
+            if !(all_numbers_finite(volume, count) & (all_finite(p0) & all_finite(p1))) {
                 return Verdict::Refused(Refusal::MissingNumber);
             }
             Verdict::of(frustum::intersects_segment(
@@ -72,7 +73,7 @@ pub fn intersects_bbox(volume: &[f64], bbox: &[f64]) -> Verdict
             if !is_flag(at(bbox, 22)) {
                 return Verdict::Refused(Refusal::Kind);
             }
-            if !(all_finite(volume) & all_finite(bbox)) {
+            if !(all_numbers_finite(volume, count) & all_finite(bbox)) {
                 return Verdict::Refused(Refusal::MissingNumber);
             }
             Verdict::of(frustum::intersects_record(&rows, count, bbox))
@@ -90,7 +91,8 @@ pub fn intersects_triangle(volume: &[f64], p0: &[f64], p1: &[f64], p2: &[f64]) -
     }
     match planes_held(volume) {
         Held::Planes(count) => {
-            if !(all_finite(volume) & (all_finite(p0) & (all_finite(p1) & all_finite(p2)))) {
+            if !(all_numbers_finite(volume, count)
+                & (all_finite(p0) & (all_finite(p1) & all_finite(p2)))) {
                 return Verdict::Refused(Refusal::MissingNumber);
             }
             Verdict::of(triangle::intersects_triangle(

@@ -29,6 +29,26 @@ pub(crate) fn sides(view: &[f64], count: u32, p: Vec3d) -> u64
     frustum::sides_within(&rows, count, p)
 }
 
+// The same for both ends of a segment.
+pub(crate) struct EndSides {
+    pub a: u64,
+    pub b: u64,
+}
+
+pub(crate) fn end_sides(view: &[f64], count: u32, a: Vec3d, b: Vec3d) -> EndSides
+    requires { ⌜ HasPlanes (now view) count ⌝ }
+    ensures { λ r. ⌜ (r .a ≡ sidesOf (planesOf (now (view .entry)) count) a) × (r .b ≡ sidesOf (planesOf (now (view .entry)) count) b) ⌝ }
+{
+    let mut rows = [0.0f64; ROWS_LENGTH];
+    gather(view, count, &mut rows);
+    let a_sides = frustum::sides_within(&rows, count, a);
+    let b_sides = frustum::sides_within(&rows, count, b);
+    EndSides {
+        a: a_sides,
+        b: b_sides,
+    }
+}
+
 // Whether the first planes leave some of a segment.
 pub(crate) fn span_left(
     view: &[f64],

@@ -2,6 +2,7 @@
 pub mod bbox;
 pub mod bbox_calls;
 pub mod clip;
+mod finite;
 pub mod frustum;
 pub mod frustum_calls;
 mod gathered;

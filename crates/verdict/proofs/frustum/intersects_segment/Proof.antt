@@ -27,10 +27,10 @@ returns c =
     c .segment-left .ensures ∙ ap (λ (n : ℕ). segmentInView (planesOf (g .view .now) n) (g .a) (g .b)) (sym (six .if1 .taken))
 
 left : tie.Need-segment-left-requires-2
-left c κs = let first = c .before in (first .before .before .before .pre, first .sides3 .ensures, c .sides4 .ensures)
+left c κs = (c .before .before .before .pre, c .end-sides .ensures .0, c .end-sides .ensures .1)
 
 returns-2 : tie.Need-returns-2
 returns-2 c = c .segment-left2 .ensures
 
 pub intersects-segment-spec : {M : Type 1} → statement M
-intersects-segment-spec = tie.close (tie.spec fewest fewest-2 fewest-left returns (λ c κs. search needs) (λ c κs. search needs) left returns-2)
+intersects-segment-spec = tie.close (tie.spec fewest fewest-2 fewest-left returns (λ c κs. search needs) left returns-2)

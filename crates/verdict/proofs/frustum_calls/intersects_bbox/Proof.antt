@@ -29,6 +29,9 @@ returns-2 c =
     (no-flag (a .bbox .now) _ _ (f .before .at .ensures) (f .is-flag .ensures) (c .if2 .taken))
     ∙ box-call (a .volume .now) (a .bbox .now)
 
+finite-requires : tie.Need-all-numbers-finite-requires
+finite-requires c κs = let known = c .before .before .before .before in held _ _ (ap heldOf (sym (known .count .given .1)) ∙ known .before .before .before .load .ensures .0)
+
 returns-3 : tie.Need-returns-3
 returns-3 c =
     let second = c .before in
@@ -40,7 +43,7 @@ returns-3 c =
     let a = counted .before .before .before .before .before .args in
     not-finite _ _ _ _ _ (one-input 23 (a .bbox .now) ∙ eq-eqb _ _ (counted .before .before .if1 .left)) _ (ap heldOf (sym (known .count .given .1)) ∙ counted .load .ensures .0)
     (is-flag (a .bbox .now) _ _ (f .before .at .ensures) (f .is-flag .ensures) (e .if2 .left))
-    (sym (next-record _ (first .all-finite .ensures) _ (last-record _ (second .all-finite2 .ensures))) ∙ not-true _ (c .if3 .taken))
+    (sym (next-record _ (first .all-numbers-finite .ensures) _ (last-record _ (second .all-finite .ensures))) ∙ not-true _ (c .if3 .taken))
     ∙ box-call (a .volume .now) (a .bbox .now)
 
 record-requires : tie.Need-intersects-record-requires
@@ -62,7 +65,7 @@ returns-4 c =
     let a = counted .before .before .before .before .before .args in
     answered _ _ _ _ _ (one-input 23 (a .bbox .now) ∙ eq-eqb _ _ (counted .before .before .if1 .left)) _ (ap heldOf (sym (known .count .given .1)) ∙ counted .load .ensures .0)
     (is-flag (a .bbox .now) _ _ (f .before .at .ensures) (f .is-flag .ensures) (e .if2 .left))
-    (sym (next-record _ (first .all-finite .ensures) _ (last-record _ (second .all-finite2 .ensures))) ∙ not-false _ (g .if3 .left)) _
+    (sym (next-record _ (first .all-numbers-finite .ensures) _ (last-record _ (second .all-finite .ensures))) ∙ not-false _ (g .if3 .left)) _
     (c .of .ensures ∙ ap result (view .intersects-record .ensures ∙ ap (λ (ps : List Plane). boxInView ps (boxOf (a .bbox .now))) (planes-held-in (known .count .given .0 .0) (a .volume .now) _ _ (ap heldOf (sym (known .count .given .1))) (counted .load .ensures .1))))
     ∙ box-call (a .volume .now) (a .bbox .now)
 
@@ -79,5 +82,5 @@ intersects-bbox-spec =
     tie.close
     (tie.spec
     returns (λ c. search needs) (λ c κs. tt) (λ c. search needs) (λ c κs. search needs) (λ c κs. search needs) returns-2
-    (λ c κs. search needs) (λ c κs. search needs) returns-3
+    finite-requires (λ c κs. search needs) returns-3
     record-requires (λ c κs. search needs) (λ c. search needs) returns-4 returns-5)

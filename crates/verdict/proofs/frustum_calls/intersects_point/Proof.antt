@@ -19,6 +19,9 @@ intersects-point-requires c κs =
     let known = c .before .before .before .before .before in
     has-planes (held _ _ (ap heldOf (sym (known .count .given .1)) ∙ known .before .before .planes-held .ensures))
 
+finite-requires : tie.Need-all-numbers-finite-requires
+finite-requires c κs = let known = c .before in held _ _ (ap heldOf (sym (known .count .given .1)) ∙ known .before .before .planes-held .ensures)
+
 returns-2 : tie.Need-returns-2
 returns-2 c =
     let second = c .before in
@@ -27,7 +30,7 @@ returns-2 c =
     let counted = known .before .before in
     let a = counted .before .before .before .before .args in
     not-finite _ _ _ _ _ (one-input 3 (a .p .now) ∙ eq-eqb _ _ (counted .before .if1 .left)) _ (ap heldOf (sym (known .count .given .1)) ∙ counted .planes-held .ensures) refl
-    (sym (next-record _ (first .all-finite .ensures) _ (last-record _ (second .all-finite2 .ensures))) ∙ not-true _ (c .if2 .taken))
+    (sym (next-record _ (first .all-numbers-finite .ensures) _ (last-record _ (second .all-finite .ensures))) ∙ not-true _ (c .if2 .taken))
     ∙ point-call (a .volume .now) (a .p .now)
 
 returns-3 : tie.Need-returns-3
@@ -41,7 +44,7 @@ returns-3 c =
     let counted = known .before .before in
     let a = counted .before .before .before .before .args in
     answered _ _ _ _ _ (one-input 3 (a .p .now) ∙ eq-eqb _ _ (counted .before .if1 .left)) _ (ap heldOf (sym (known .count .given .1)) ∙ counted .planes-held .ensures) refl
-    (sym (next-record _ (first .all-finite .ensures) _ (last-record _ (second .all-finite2 .ensures))) ∙ not-false _ (e .if2 .left)) _
+    (sym (next-record _ (first .all-numbers-finite .ensures) _ (last-record _ (second .all-finite .ensures))) ∙ not-false _ (e .if2 .left)) _
     (c .of .ensures ∙ ap result (asked .intersects-point .ensures ∙ ap (pointInView (planesOf (a .volume .now) (known .count .given .0 .0))) (point .load .ensures)))
     ∙ point-call (a .volume .now) (a .p .now)
 
@@ -57,5 +60,5 @@ pub intersects-point-spec : {M : Type 1} → statement M
 intersects-point-spec =
     tie.close
     (tie.spec
-    returns (λ c κs. search needs) (λ c. search needs) (λ c κs. search needs) (λ c κs. search needs) returns-2
+    returns (λ c κs. search needs) (λ c. search needs) finite-requires (λ c κs. search needs) returns-2
     (λ c κs. search needs) intersects-point-requires (λ c κs. search needs) (λ c. search needs) returns-3 returns-4)

@@ -19,6 +19,9 @@ intersects-triangle-requires c κs =
     let known = c .before .before .before .before .before .before .before .before .before in
     held _ _ (ap heldOf (sym (known .count .given .1)) ∙ known .before .before .planes-held .ensures)
 
+finite-requires : tie.Need-all-numbers-finite-requires
+finite-requires c κs = let known = c .before in held _ _ (ap heldOf (sym (known .count .given .1)) ∙ known .before .before .planes-held .ensures)
+
 returns-2 : tie.Need-returns-2
 returns-2 c =
     let fourth = c .before in
@@ -29,7 +32,7 @@ returns-2 c =
     let counted = known .before .before in
     let a = counted .before .before .before .before .before .before .args in
     not-finite _ _ _ _ _ (three-inputs 3 (a .p0 .now) 3 (a .p1 .now) 3 (a .p2 .now) ∙ not-false _ (counted .before .if1 .left)) _ (ap heldOf (sym (known .count .given .1)) ∙ counted .planes-held .ensures) refl
-    (sym (next-record _ (first .all-finite .ensures) _ (next-record _ (second .all-finite2 .ensures) _ (next-record _ (third .all-finite3 .ensures) _ (last-record _ (fourth .all-finite4 .ensures))))) ∙ not-true _ (c .if2 .taken))
+    (sym (next-record _ (first .all-numbers-finite .ensures) _ (next-record _ (second .all-finite .ensures) _ (next-record _ (third .all-finite2 .ensures) _ (last-record _ (fourth .all-finite3 .ensures))))) ∙ not-true _ (c .if2 .taken))
     ∙ triangle-call (a .volume .now) (a .p0 .now) (a .p1 .now) (a .p2 .now)
 
 returns-3 : tie.Need-returns-3
@@ -47,7 +50,7 @@ returns-3 c =
     let counted = known .before .before in
     let a = counted .before .before .before .before .before .before .args in
     answered _ _ _ _ _ (three-inputs 3 (a .p0 .now) 3 (a .p1 .now) 3 (a .p2 .now) ∙ not-false _ (counted .before .if1 .left)) _ (ap heldOf (sym (known .count .given .1)) ∙ counted .planes-held .ensures) refl
-    (sym (next-record _ (first .all-finite .ensures) _ (next-record _ (second .all-finite2 .ensures) _ (next-record _ (third .all-finite3 .ensures) _ (last-record _ (fourth .all-finite4 .ensures))))) ∙ not-false _ (e .if2 .left)) _
+    (sym (next-record _ (first .all-numbers-finite .ensures) _ (next-record _ (second .all-finite .ensures) _ (next-record _ (third .all-finite2 .ensures) _ (last-record _ (fourth .all-finite3 .ensures))))) ∙ not-false _ (e .if2 .left)) _
     (c .of .ensures ∙ ap result (asked .intersects-triangle .ensures ∙ (λ t. triangleInView (planesOf (a .volume .now) (known .count .given .0 .0)) (raysOf (a .volume .now) (known .count .given .0 .0)) ((x .load .ensures) t) ((y .load2 .ensures) t) ((z .load3 .ensures) t))))
     ∙ triangle-call (a .volume .now) (a .p0 .now) (a .p1 .now) (a .p2 .now)
 
@@ -64,6 +67,6 @@ intersects-triangle-spec =
     tie.close
     (tie.spec
     returns (λ c κs. search needs) (λ c. search needs)
-    (λ c κs. search needs) (λ c κs. search needs) (λ c κs. search needs) (λ c κs. search needs) returns-2
+    finite-requires (λ c κs. search needs) (λ c κs. search needs) (λ c κs. search needs) returns-2
     (λ c κs. search needs) (λ c κs. search needs) (λ c κs. search needs)
     intersects-triangle-requires (λ c κs. search needs) (λ c. search needs) returns-3 returns-4)
