@@ -8,6 +8,7 @@ pub mod group_calls;
 pub mod matrix_calls;
 pub mod nearest_calls;
 pub mod number_calls;
+pub mod placed_calls;
 pub mod plane_calls;
 pub mod projection_calls;
 pub mod range_calls;
