@@ -12,14 +12,14 @@ use lib.IntN.{ℤ, pos, _-ℤ_, _*ℤ_}
 use lib.Signed.{_≤ℤ_}
 use Rattle.whole.proofs.Integer.{hi, lo, of-self as self, of-pos, of-neg, of-le, of-min, of-max, le-is, _⊟_, _⊠_}
 use Rattle.whole.specs.Plane.{WholePlane}
-use Rattle.farmgrid.specs.Placement.{smaller, larger}
+use Rattle.placed.specs.Placement.{smaller, larger, WholeBox}
 use Rattle.farmgrid.proofs.WholeSigns.{flip}
 use Rattle.farmgrid.proofs.Singles.{Single, single, single-dot}
 use Rattle.farmgrid.proofs.PlacedRanges.{placed-nonempty}
 use Rattle.verdict.specs.declared.plane.Plane.{Plane}
 use Rattle.verdict.specs.declared.bbox.BBox3d.{BBox3d}
 use Rattle.verdict.specs.Frustum.{boxInView}
-use Rattle.farmgrid.specs.FarmGrid.{AxisPlane, WholeBox, GridBox, ArePlanes, IsBox, lowOf, highOf}
+use Rattle.farmgrid.specs.FarmGrid.{AxisPlane, GridBox, ArePlanes, IsBox, lowOf, highOf}
 use Rattle.exact.specs.ExactPoint.{ExactPoint, Satisfies, InBox, BoxInView}
 use Rattle.farmgrid.specs.FarmGrid.{Share}
 use Rattle.farmgrid.proofs.EveryPlane.{every-of, every-both}

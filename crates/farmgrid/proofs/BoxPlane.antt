@@ -27,7 +27,8 @@ use Rattle.matrix.specs.Transform.{homogeneous}
 use Rattle.matrix.specs.declared.vec.Vec3d.{Vec3d}
 use Rattle.matrix.specs.declared.vec.Vec4d.{Vec4d}
 use Rattle.matrix.specs.declared.inverse.Inverted.{Inverted}
-use Rattle.farmgrid.specs.Placement.{WholeVec, WholeVec4, WholeRange, WholeMatrix, Within, NonEmpty, Placement, dot4ℤ, sizes}
+use Rattle.placed.specs.Placement.{sizes, WholeBox}
+use Rattle.farmgrid.specs.Placement.{WholeVec, WholeVec4, WholeRange, WholeMatrix, Within, NonEmpty, Placement, dot4ℤ}
 use Rattle.farmgrid.proofs.WholeSigns.{abs-flip}
 use Rattle.farmgrid.proofs.Singles.{three, four, single, single-dot}
 use Rattle.farmgrid.proofs.QuarterTurns.{widen, widen-placement}
@@ -43,7 +44,7 @@ use Rattle.verdict.proofs.ReachSum.{reach-by-dot}
 use Rattle.verdict.specs.BBox.{boxEpsilon, flagBeside}
 use Rattle.verdict.specs.Frustum.{intoSpaceOf, boxInView}
 use Rattle.exact.specs.ExactPoint.{Every}
-use Rattle.farmgrid.specs.FarmGrid.{AxisPlane, WholeBox, IsPlane, ArePlanes, IsBox}
+use Rattle.farmgrid.specs.FarmGrid.{AxisPlane, IsPlane, ArePlanes, IsBox}
 use Rattle.farmgrid.proofs.EveryPlane.{every-is}
 use Rattle.farmgrid.proofs.Distance.{same-test, non-negative}
 use Rattle.farmgrid.proofs.BoxReach.{Reaches, inSpace, ahead, distanceIn, in-space-single, reach-in-space, at-least}

@@ -11,11 +11,12 @@ use lib.Signed.{nonNeg, _≤ℤ_}
 use Rattle.number.specs.Grid.{signed}
 use Rattle.whole.proofs.Integer.{of-self as self, of-pos, of-neg, of-eq, of-le, le-is, max-left, max-right, max-shift, neg-min, _⊞_, _⊟_}
 use Rattle.whole.specs.Plane.{WholePlane, dotℤ, gap}
-use Rattle.farmgrid.specs.Placement.{NonEmpty, QuarterTurn, PlacementWithin, turnedℤ, movedℤ, sizes, smaller, larger}
+use Rattle.placed.specs.Placement.{turnedℤ, movedℤ, sizes, smaller, larger, WholeBox}
+use Rattle.farmgrid.specs.Placement.{NonEmpty, QuarterTurn, PlacementWithin}
 use Rattle.farmgrid.proofs.WholeSigns.{flip, abs-flip}
 use Rattle.farmgrid.proofs.Singles.{Single, single, single-dot, unit-own}
 use Rattle.farmgrid.proofs.WholeRanges.{placed-low, placed-high}
-use Rattle.farmgrid.specs.FarmGrid.{WholeBox, lowOf, highOf}
+use Rattle.farmgrid.specs.FarmGrid.{lowOf, highOf}
 use Rattle.whole.proofs.Dot.{dot-comm, dot-sum}
 use Rattle.farmgrid.proofs.Dot.{dot-turned}
 

@@ -7,14 +7,15 @@ use mathlib.Core.List.{List, map}
 use Prim.Native.Nat.{ℕ}
 use lib.IntN.{ℤ, _-ℤ_}
 use Rattle.whole.specs.Plane.{WholePlane, gap}
-use Rattle.farmgrid.specs.Placement.{PlacementWithin, movedℤ, productℤ, larger}
+use Rattle.placed.specs.Placement.{movedℤ, larger, WholeBox}
+use Rattle.farmgrid.specs.Placement.{PlacementWithin, productℤ}
 use Rattle.farmgrid.proofs.Singles.{same-dot}
 use Rattle.farmgrid.proofs.QuarterTurns.{product-moves}
 use Rattle.verdict.specs.declared.plane.Plane.{Plane}
 use Rattle.verdict.specs.declared.bbox.BBox3d.{BBox3d}
 use Rattle.verdict.specs.Frustum.{boxInView}
 use Rattle.exact.specs.ExactPoint.{Every}
-use Rattle.farmgrid.specs.FarmGrid.{AxisPlane, WholeBox, ArePlanes, IsBox, movedPlane, movedBox}
+use Rattle.farmgrid.specs.FarmGrid.{AxisPlane, ArePlanes, IsBox, movedPlane, movedBox}
 use Rattle.farmgrid.proofs.Distance.{same-test}
 use Rattle.farmgrid.proofs.EveryPlane.{every-moved}
 use Rattle.farmgrid.proofs.Turned.{gap-moved}

@@ -8,9 +8,10 @@ use native.Mathlib.Omega.{arith}
 use lib.IntN.{ℤ, pos, negℤ, _+ℤ_, _-ℤ_, _*ℤ_}
 use lib.Signed.{_<ℤ_}
 use Rattle.whole.specs.Plane.{dotℤ}
-use Rattle.farmgrid.specs.Placement.{columnℤ, turnedℤ, productℤ, cornerℤ}
+use Rattle.placed.specs.Placement.{columnℤ, turnedℤ, WholeBox}
+use Rattle.farmgrid.specs.Placement.{productℤ, cornerℤ}
 use Rattle.exact.specs.ExactPoint.{ExactPoint}
-use Rattle.farmgrid.specs.FarmGrid.{WholeBox, exactly}
+use Rattle.farmgrid.specs.FarmGrid.{exactly}
 use Rattle.farmgrid.specs.ClipSpace.{AffineBox, InRange, throughℤ, placedPoint, clipPoint, InClipVolume, SomeCorner, EachSide}
 use Rattle.whole.proofs.Integer.{of-self as self, of-pos, of-neg, of-eq, of-lt, _⊞_, _⊟_, _⊠_}
 use Rattle.farmgrid.proofs.WholeSigns.{dot-flip}

@@ -27,7 +27,8 @@ use Rattle.verdict.specs.BBoxCalls.{flagged}
 use Rattle.verdict.specs.Frustum.{clipCorner, boxInViewVolume}
 use Rattle.farmgrid.specs.Whole.{Whole}
 use Rattle.farmgrid.specs.Placement.{WholeVec4, WholeRange, WholeMatrix, Sized, productℤ, cornerℤ}
-use Rattle.farmgrid.specs.FarmGrid.{WholeBox, exactly}
+use Rattle.placed.specs.Placement.{WholeBox}
+use Rattle.farmgrid.specs.FarmGrid.{exactly}
 use Rattle.farmgrid.specs.ClipSpace.{viewProjectionLimit, productLimit, clipLimit, AffineBox, throughℤ, clipCornerℤ, NeverLost, Unrounded, NothingRounded, SomeCorner, EachSide, ClipExact}
 use Rattle.farmgrid.proofs.Exact.{neg-whole, lt-whole}
 use Rattle.farmgrid.proofs.Singles.{three, four}

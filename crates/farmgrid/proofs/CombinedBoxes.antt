@@ -21,7 +21,7 @@ use Rattle.matrix.specs.declared.range.Range3d.{Range3d}
 use Rattle.matrix.specs.declared.inverse.Inverted.the-variants.{Matrix}
 use Rattle.farmgrid.specs.Placement.{WholeRange, WholeMatrix, Within, NonEmpty, PlacementWithin, Placement, GridPoint}
 use Rattle.farmgrid.specs.Placement.{productℤ, placedLow, placedHigh}
-use Rattle.farmgrid.specs.Placement.{smaller as smallerℤ, larger as largerℤ}
+use Rattle.placed.specs.Placement.{smaller as smallerℤ, larger as largerℤ, WholeBox}
 use Rattle.farmgrid.proofs.QuarterTurns.{widen, widen-placement, product-placement}
 use Rattle.farmgrid.proofs.InversePlacements.{inverseℤ, inverse-placement}
 use Rattle.farmgrid.proofs.WholePlacements.{product-whole}
@@ -30,7 +30,7 @@ use Rattle.farmgrid.proofs.WholeRanges.{nonempty-whole, union-whole, tr
 use Rattle.farmgrid.proofs.PlacedRanges.{extreme, placed, placed-is, placed-nonempty, placed-within, placed-product, placed-grown}
 use Rattle.verdict.specs.declared.bbox.BBox3d.{BBox3d}
 use Rattle.verdict.specs.BBox.{boxEpsilon, flagBeside, extended, preferred, volume, smaller, merged, held, combined}
-use Rattle.farmgrid.specs.FarmGrid.{WholeBox, IsBox}
+use Rattle.farmgrid.specs.FarmGrid.{IsBox}
 use Rattle.farmgrid.proofs.Extents.{extreme-ind, Extent, join, join-comm}
 
 -- twice the size of the grid

@@ -23,7 +23,7 @@ use Rattle.verdict.specs.declared.bbox.BBox3d.{BBox3d}
 use Rattle.verdict.specs.BBox.{numbers, boxOf, alignedRange, combined}
 use Rattle.verdict.specs.BBoxCalls.{flagged, combineCall, alignedRangeCall}
 use Rattle.group.proofs.Written.{flag-read, combine-writes}
-use Rattle.farmgrid.specs.FarmGrid.{WholeBox}
+use Rattle.placed.specs.Placement.{WholeBox}
 use Rattle.farmgrid.specs.Records.{BoxRecord, Accepted}
 use Rattle.farmgrid.proofs.Answers.{range-writes}
 use Rattle.farmgrid.proofs.Extents.{Extent, join}

@@ -4,7 +4,7 @@ use Prim.Native.Nat.{ℕ}
 use lib.IntN.{ℤ, _+ℤ_, _*ℤ_}
 use Rattle.whole.specs.Plane.{dotℤ}
 use Rattle.whole.proofs.Dot.{dot-sum, dot-times}
-use Rattle.farmgrid.specs.Placement.{turnedℤ}
+use Rattle.placed.specs.Placement.{turnedℤ}
 
 -- a turned q is the sum of the rows, each multiplied by the number of q at that row
 pub dot-turned : (f : ℕ → ℕ → ℤ) (p q : ℕ → ℤ) → dotℤ p (turnedℤ f q) ≡ dotℤ q (λ i. dotℤ p (f i))

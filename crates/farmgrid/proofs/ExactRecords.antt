@@ -18,8 +18,9 @@ use Rattle.exact.specs.ExactPoint.{ExactPoint, Every, InBox}
 use Rattle.verdict.specs.declared.plane.Plane.{Plane}
 use Rattle.verdict.specs.View.{tabulate, planeAt}
 use Rattle.verdict.specs.BBoxCalls.{alignedRangeCall}
-use Rattle.farmgrid.specs.Placement.{GridPoint, movedℤ}
-use Rattle.farmgrid.specs.FarmGrid.{SegmentPlane, WholeBox, GridBox, IsPlane, ArePlanes, none, more, lowOf, highOf}
+use Rattle.placed.specs.Placement.{movedℤ, WholeBox}
+use Rattle.farmgrid.specs.Placement.{GridPoint}
+use Rattle.farmgrid.specs.FarmGrid.{SegmentPlane, GridBox, IsPlane, ArePlanes, none, more, lowOf, highOf}
 use Rattle.farmgrid.specs.Records.{ViewRecord, BoxRecord}
 use Rattle.farmgrid.specs.WholeNumbers.{FloatsOf, SameView}
 use Rattle.farmgrid.specs.ExactBoxes.{SamePlane, SamePlanes, none as no-planes, more as plane-more, ViewOf, BoundsOf, RecordsExact, OneBlock}

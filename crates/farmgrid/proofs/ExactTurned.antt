@@ -14,8 +14,9 @@ use Rattle.whole.specs.Plane.{WholePlane, dotℤ}
 use Rattle.whole.proofs.Integer.{of-self as self, of-pos, of-neg, of-eq, of-le, le-is, abs-times, min-left, min-right, max-left, max-right, _⊞_, _⊟_, _⊠_}
 use Rattle.whole.proofs.Dot.{dot-sum, dot-times}
 use Rattle.exact.specs.ExactPoint.{ExactPoint, Satisfies, InView, InBox, BoxInView}
-use Rattle.farmgrid.specs.Placement.{NonEmpty, QuarterTurn, PlacementWithin, turnedℤ, movedℤ, sizes, smaller, larger, placedLow, placedHigh}
-use Rattle.farmgrid.specs.FarmGrid.{WholeBox, lowOf, highOf, movedPlane, movedBox}
+use Rattle.placed.specs.Placement.{turnedℤ, movedℤ, sizes, smaller, larger, WholeBox}
+use Rattle.farmgrid.specs.Placement.{NonEmpty, QuarterTurn, PlacementWithin, placedLow, placedHigh}
+use Rattle.farmgrid.specs.FarmGrid.{lowOf, highOf, movedPlane, movedBox}
 use Rattle.farmgrid.specs.ExactBoxes.{ExactTurned}
 use Rattle.farmgrid.proofs.WholeSigns.{flip}
 use Rattle.farmgrid.proofs.Singles.{three}

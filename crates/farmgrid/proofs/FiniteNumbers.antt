@@ -26,7 +26,8 @@ use Rattle.whole.specs.Plane.{WholePlane}
 use Rattle.whole.proofs.Integer.{by-test}
 use Rattle.farmgrid.specs.Whole.{Whole}
 use Rattle.farmgrid.specs.Placement.{WholeVec, WholeRange, WholeMatrix}
-use Rattle.farmgrid.specs.FarmGrid.{WholeBox, IsPlane, ArePlanes, more}
+use Rattle.placed.specs.Placement.{WholeBox}
+use Rattle.farmgrid.specs.FarmGrid.{IsPlane, ArePlanes, more}
 use Rattle.farmgrid.specs.Records.{PointRecord, ViewRecord, BoxRecord}
 use Rattle.farmgrid.specs.WholeNumbers.{SameEnd, SameView}
 use Rattle.farmgrid.proofs.Singles.{three, four}

@@ -20,7 +20,8 @@ use Rattle.whole.proofs.Integer.{of-self as self, of-neg, of-le, le-is}
 use Rattle.whole.specs.Plane.{WholePlane}
 use Rattle.farmgrid.proofs.Singles.{single}
 use Rattle.farmgrid.specs.Placement.{PlacementWithin}
-use Rattle.farmgrid.specs.FarmGrid.{AxisPlane, WholeBox, lowOf, highOf}
+use Rattle.placed.specs.Placement.{WholeBox}
+use Rattle.farmgrid.specs.FarmGrid.{AxisPlane, lowOf, highOf}
 use Rattle.farmgrid.specs.Records.{ViewRecord, BoxRecord, BoxRecords, none, more}
 use Rattle.farmgrid.specs.Combining.{Coordinate, other}
 use Rattle.farmgrid.specs.Grouping.{EachRecord, GroupOut}

@@ -11,7 +11,7 @@ use Rattle.whole.proofs.Integer.{by-test, of-self as self, of-neg, of-eq, abs-n
 use Rattle.whole.specs.Plane.{dotℤ}
 use Rattle.farmgrid.proofs.Exact.{abs-signed}
 use Rattle.farmgrid.specs.Placement.{QuarterTurn, PlacementWithin}
-use Rattle.farmgrid.specs.Placement.{columnℤ, turnedℤ, movedℤ}
+use Rattle.placed.specs.Placement.{columnℤ, turnedℤ, movedℤ}
 use Rattle.farmgrid.proofs.WholeSigns.{flip}
 use Rattle.farmgrid.proofs.Singles.{three, Single, unit-own, same-dot, dot-single}
 use Rattle.farmgrid.proofs.QuarterTurns.{transposeℤ, source, target, turned-within, moved-is, same-sizes}

@@ -7,7 +7,7 @@ use mathlib.Core.List.{List, [], _∷_}
 use lib.ListN.{length}
 use lib.Ieee.{Float}
 use Rattle.verdict.specs.BBoxCalls.{alignedRangeCall}
-use Rattle.farmgrid.specs.FarmGrid.{WholeBox}
+use Rattle.placed.specs.Placement.{WholeBox}
 use Rattle.farmgrid.specs.Records.{BoxRecords, Accepted}
 use Rattle.farmgrid.specs.Combining.{Leaves, none as no-call, call, RangeExact, CombiningExact}
 use Rattle.farmgrid.specs.Grouping.{Mixed, none, combine, group, GroupingExact}

@@ -24,7 +24,8 @@ use Rattle.verdict.specs.View.{planesOf}
 use Rattle.verdict.specs.Frustum.{pointInView, segmentInView, boxInView, intoSpaceOf}
 use Rattle.whole.specs.Plane.{WholePlane}
 use Rattle.exact.specs.ExactPoint.{Satisfies, Every}
-use Rattle.farmgrid.specs.FarmGrid.{SegmentPlane, AxisPlane, WholeBox, IsPoint, IsBox, ArePlanes, exactly, between}
+use Rattle.placed.specs.Placement.{WholeBox}
+use Rattle.farmgrid.specs.FarmGrid.{SegmentPlane, AxisPlane, IsPoint, IsBox, ArePlanes, exactly, between}
 use Rattle.farmgrid.specs.Screens.{PlaneMore, PointScreened, SegmentScreened, BoxScreened, EachPlaneScreens}
 use Rattle.farmgrid.proofs.FiniteNumbers.{point-finite, box-record-finite, view-finite}
 use Rattle.farmgrid.proofs.Answers.{point-answer, segment-answer, box-answer}

@@ -12,7 +12,8 @@ use lib.Signed.{_≤ℤ_, ≤ℤ-refl}
 use Rattle.whole.proofs.Integer.{of-self as self, of-le, of-min, of-max, le-is}
 use Rattle.farmgrid.specs.Placement.{pickedOf}
 use Rattle.farmgrid.proofs.PlacedRanges.{extreme}
-use Rattle.farmgrid.specs.FarmGrid.{WholeBox, placedCornerOf}
+use Rattle.placed.specs.Placement.{WholeBox}
+use Rattle.farmgrid.specs.FarmGrid.{placedCornerOf}
 use Rattle.farmgrid.specs.Combining.{Coordinate, own, other, Least, Greatest}
 use Rattle.farmgrid.proofs.Extents.{extreme-ind, Extent, join}
 use Rattle.farmgrid.proofs.CombinedBoxes.{extentOf}

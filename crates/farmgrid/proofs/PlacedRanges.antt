@@ -10,8 +10,9 @@ use lib.Dec.{lit<}
 use lib.IntN.{ℤ, natAbs, _+ℤ_, _*ℤ_}
 use lib.Signed.{_≤ℤ_}
 use Rattle.whole.proofs.Integer.{of-self as self, of-neg, of-eq, of-le, of-min, of-max, le-is, min-ind, max-ind, _⊞_}
-use Rattle.farmgrid.specs.Placement.{Within, NonEmpty, PlacementWithin, movedℤ, productℤ}
-use Rattle.farmgrid.specs.Placement.{smaller, larger, placedLow, placedHigh}
+use Rattle.placed.specs.Placement.{movedℤ, smaller, larger}
+use Rattle.farmgrid.specs.Placement.{Within, NonEmpty, PlacementWithin, productℤ}
+use Rattle.farmgrid.specs.Placement.{placedLow, placedHigh}
 use Rattle.farmgrid.proofs.WholeSigns.{flip}
 use Rattle.farmgrid.proofs.QuarterTurns.{source, moved-is, moved-within, product-placement, product-moves}
 use Rattle.farmgrid.proofs.InversePlacements.{inverseℤ, inverse-placement, undone}

@@ -7,8 +7,9 @@ use mathlib.Core.Bool.{Bool, true, false}
 use lib.Dec.{lit<}
 use lib.IntN.{ℤ, pos, natAbs, _+ℤ_, _-ℤ_, _*ℤ_}
 use Rattle.whole.proofs.Integer.{of-self as self, of-pos, of-neg, of-eq, abs-sum, _⊞_, _⊠_}
-use Rattle.farmgrid.specs.Placement.{Within, QuarterTurn, PlacementWithin, sizes}
-use Rattle.farmgrid.specs.Placement.{columnℤ, turnedℤ, movedℤ, productℤ}
+use Rattle.placed.specs.Placement.{sizes, columnℤ, turnedℤ, movedℤ}
+use Rattle.farmgrid.specs.Placement.{Within, QuarterTurn, PlacementWithin}
+use Rattle.farmgrid.specs.Placement.{productℤ}
 use Rattle.farmgrid.proofs.WholeSigns.{flip, abs-flip, dot-flip, plus-zero, plus-one}
 use Rattle.farmgrid.proofs.Singles.{three, four, Single, single, same-dot, dot-single, single-dot}
 

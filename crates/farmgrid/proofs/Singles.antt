@@ -10,7 +10,7 @@ use lib.Signed.{nonNeg}
 use Rattle.number.specs.Grid.{signed}
 use Rattle.whole.proofs.Integer.{of-self as self, of-pos, of-eq, _⊞_}
 use Rattle.whole.specs.Plane.{dotℤ}
-use Rattle.farmgrid.specs.Placement.{sizes}
+use Rattle.placed.specs.Placement.{sizes}
 use Rattle.farmgrid.proofs.WholeSigns.{flip, times-unit}
 use Rattle.whole.proofs.Dot.{dot-comm}
 

@@ -3,7 +3,7 @@
 use mathlib.Core.Path.{_≡_, refl, sym, ap, _∙_, subst}
 use mathlib.Core.List.{List, [], _∷_}
 use lib.Ieee.{Float}
-use Rattle.farmgrid.specs.FarmGrid.{WholeBox}
+use Rattle.placed.specs.Placement.{WholeBox}
 use Rattle.farmgrid.specs.Records.{BoxRecords, none, more}
 use Rattle.farmgrid.specs.Combining.{Picked, first, later}
 use Rattle.farmgrid.proofs.Extents.{Extent, join, join-assoc, join-swap, join-cancel, over}

@@ -12,8 +12,8 @@ use lib.Ieee.Fits.{and-l, and-r, and-i, eq→eqb}
 use Rattle.number.specs.Grid.{signed}
 use Rattle.matrix.specs.Inverse.{without}
 use Rattle.whole.specs.Plane.{dotℤ}
-use Rattle.farmgrid.specs.Placement.{QuarterTurn, sizes}
-use Rattle.farmgrid.specs.Placement.{columnℤ}
+use Rattle.placed.specs.Placement.{sizes, columnℤ}
+use Rattle.farmgrid.specs.Placement.{QuarterTurn}
 use Rattle.farmgrid.proofs.WholeSigns.{flip}
 use Rattle.farmgrid.proofs.Singles.{three, unit, Single}
 use Rattle.farmgrid.proofs.QuarterTurns.{determinantℤ, target}

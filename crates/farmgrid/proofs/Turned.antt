@@ -10,7 +10,8 @@ use lib.IntN.{ℤ, _+ℤ_, _-ℤ_}
 use Rattle.whole.proofs.Integer.{of-self, of-sum, of-minus, of-eq}
 use Rattle.matrix.specs.declared.vec.Vec3d.{Vec3d}
 use Rattle.whole.specs.Plane.{WholePlane, dotℤ, gap}
-use Rattle.farmgrid.specs.Placement.{turnedℤ, movedℤ, QuarterTurn}
+use Rattle.placed.specs.Placement.{turnedℤ, movedℤ}
+use Rattle.farmgrid.specs.Placement.{QuarterTurn}
 use Rattle.verdict.specs.declared.plane.Plane.{Plane}
 use Rattle.verdict.specs.Frustum.{pointInView, segmentInView}
 use Rattle.exact.specs.ExactPoint.{Satisfies, InView}

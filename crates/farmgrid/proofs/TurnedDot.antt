@@ -8,7 +8,8 @@ use lib.Dec.{lit<}
 use lib.IntN.{ℤ, pos, negsuc, natAbs, _+ℤ_, _*ℤ_, *ℤ-zero, zero-*ℤ}
 use Rattle.whole.proofs.Integer.{hi, lo, Of, of-self, of-pos, of-sum, of-times, of-eq}
 use Rattle.whole.specs.Plane.{dotℤ}
-use Rattle.farmgrid.specs.Placement.{columnℤ, turnedℤ, sizes, QuarterTurn}
+use Rattle.placed.specs.Placement.{columnℤ, turnedℤ, sizes}
+use Rattle.farmgrid.specs.Placement.{QuarterTurn}
 use Rattle.whole.proofs.Dot.{dot-comm}
 use Rattle.farmgrid.proofs.Dot.{dot-turned}
 

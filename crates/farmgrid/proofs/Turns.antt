@@ -19,8 +19,9 @@ use Rattle.matrix.specs.MatrixCalls.{transformCall as pointMoved}
 use Rattle.verdict.specs.declared.bbox.BBox3d.{BBox3d}
 use Rattle.verdict.specs.BBox.{boxOf, numbers, transformedBox}
 use Rattle.verdict.specs.BBoxCalls.{flagged, transformBoxCall as boxMoved}
-use Rattle.farmgrid.specs.Placement.{Placed, GridPoint, movedℤ}
-use Rattle.farmgrid.specs.FarmGrid.{WholeBox, GridBox, IsPoint, IsBox, movedBox}
+use Rattle.placed.specs.Placement.{movedℤ, WholeBox}
+use Rattle.farmgrid.specs.Placement.{Placed, GridPoint}
+use Rattle.farmgrid.specs.FarmGrid.{GridBox, IsPoint, IsBox, movedBox}
 use Rattle.farmgrid.specs.Records.{PointRecord, BoxRecord, TurnRecord, Accepted}
 use Rattle.farmgrid.specs.Turns.{TurnedPoint, TurnedBox, TurnKeepsVerdicts}
 use Rattle.farmgrid.proofs.QuarterTurns.{widen, widen-placement}

@@ -23,7 +23,8 @@ use Rattle.number.proofs.Worked.{root-of-one}
 use Rattle.matrix.specs.declared.vec.Vec3d.{Vec3d}
 use Rattle.matrix.specs.Constants.{one, minLength}
 use Rattle.matrix.specs.Vec.{axis, dot, lengthOf, normalized}
-use Rattle.farmgrid.specs.Placement.{WholeVec, sizes}
+use Rattle.placed.specs.Placement.{sizes}
+use Rattle.farmgrid.specs.Placement.{WholeVec}
 use Rattle.matrix.proofs.Literals.{one-bits}
 use Rattle.farmgrid.proofs.Singles.{three, unit-own, Single, single, single-dot}
 use Rattle.farmgrid.proofs.WholeSums.{one-whole, over-unit, dot-fit, whole-vec3}

@@ -21,7 +21,8 @@ use Rattle.matrix.specs.Matrix.{entry, rowTimes, product, transpose}
 use Rattle.matrix.specs.Transform as Transform
 use Rattle.matrix.specs.Transform.{column, moved, affine, divisor, homogeneous}
 use Rattle.farmgrid.specs.Placement.{WholeVec, WholeVec4, WholeMatrix, Within, Sized}
-use Rattle.farmgrid.specs.Placement.{dot4ℤ, columnℤ, turnedℤ, movedℤ, productℤ}
+use Rattle.placed.specs.Placement.{columnℤ, turnedℤ, movedℤ}
+use Rattle.farmgrid.specs.Placement.{dot4ℤ, productℤ}
 use Rattle.farmgrid.proofs.QuarterTurns.{transposeℤ, last-moved}
 use Rattle.farmgrid.proofs.WholeSums.{one-whole, over-unit, axis-fit, dot-fit, dot4-fit, row-fit, whole-vec3, whole-vec4, whole-matrix}
 

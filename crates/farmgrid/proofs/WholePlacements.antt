@@ -16,7 +16,8 @@ use Rattle.matrix.specs.Matrix.{entry, product, transpose, determinant3}
 use Rattle.matrix.specs.Transform as Transform
 use Rattle.matrix.specs.Transform.{homogeneous}
 use Rattle.farmgrid.specs.Placement.{WholeVec, WholeVec4, WholeMatrix, Within, Sized, PlacementWithin}
-use Rattle.farmgrid.specs.Placement.{dot4ℤ, movedℤ, productℤ}
+use Rattle.placed.specs.Placement.{movedℤ}
+use Rattle.farmgrid.specs.Placement.{dot4ℤ, productℤ}
 use Rattle.farmgrid.proofs.Singles.{four}
 use Rattle.farmgrid.proofs.QuarterTurns.{determinantℤ, turn-size, upper-size}
 use Rattle.farmgrid.proofs.WholeMatrices.{point-computed, product-computed, transpose-whole, homogeneous-computed}

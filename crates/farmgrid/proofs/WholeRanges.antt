@@ -22,8 +22,9 @@ use Rattle.matrix.specs.Matrix.{entry}
 use Rattle.matrix.specs.Transform.{column}
 use Rattle.matrix.specs.Range as Range
 use Rattle.matrix.specs.Range.{sumFrom, emptyAlong, isEmpty, union, reach}
-use Rattle.farmgrid.specs.Placement.{WholeRange, WholeMatrix, Within, NonEmpty, PlacementWithin, columnℤ, movedℤ}
-use Rattle.farmgrid.specs.Placement.{smaller, larger, pickedOf, cornerℤ, placedCorner, placedLow, placedHigh}
+use Rattle.placed.specs.Placement.{columnℤ, movedℤ, smaller, larger}
+use Rattle.farmgrid.specs.Placement.{WholeRange, WholeMatrix, Within, NonEmpty, PlacementWithin}
+use Rattle.farmgrid.specs.Placement.{pickedOf, cornerℤ, placedCorner, placedLow, placedHigh}
 use Rattle.farmgrid.proofs.Singles.{three, only, sum-only, Single}
 use Rattle.farmgrid.proofs.QuarterTurns.{source, moved-is, widen-placement}
 use Rattle.farmgrid.proofs.WholeSums.{axis-fit, whole-vec3}

@@ -11,7 +11,8 @@ use Rattle.number.specs.Limits.{boxLength}
 use Rattle.matrix.specs.Range.{rangeOf}
 use Rattle.farmgrid.specs.Placement.{WholeRange}
 use Rattle.verdict.specs.BBoxCalls.{combineCall, alignedRangeCall}
-use Rattle.farmgrid.specs.FarmGrid.{WholeBox, placedCornerOf}
+use Rattle.placed.specs.Placement.{WholeBox}
+use Rattle.farmgrid.specs.FarmGrid.{placedCornerOf}
 use Rattle.farmgrid.specs.Records.{BoxRecords, Accepted}
 
 -- ---- the calls

@@ -18,7 +18,8 @@ use Rattle.exact.specs.BBoxCall.{lowCorner, highCorner, witnessLength, Witness,
 use Rattle.verdict.specs.BBoxCalls.{alignedRangeCall}
 use Rattle.verdict.specs.FrustumCalls.{intersectsBoxCall}
 use Rattle.farmgrid.specs.Placement.{NonEmpty, GridPoint, Placement}
-use Rattle.farmgrid.specs.FarmGrid.{SegmentPlane, AxisPlane, WholeBox, GridBox, lowOf, highOf, Share, movedPlane, movedBox}
+use Rattle.placed.specs.Placement.{WholeBox}
+use Rattle.farmgrid.specs.FarmGrid.{SegmentPlane, AxisPlane, GridBox, lowOf, highOf, Share, movedPlane, movedBox}
 use Rattle.farmgrid.specs.Records.{ViewRecord, BoxRecord, Settled}
 use Rattle.farmgrid.specs.Screens.{NeverToYes}
 use Rattle.farmgrid.specs.WholeNumbers.{WholeView, FloatsOf, SameView}

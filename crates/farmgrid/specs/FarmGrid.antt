@@ -12,7 +12,8 @@ use Rattle.whole.specs.Plane.{WholePlane, dotℤ}
 use Rattle.exact.specs.ExactPoint.{ExactPoint, InView}
 use Rattle.farmgrid.specs.Whole.{Whole}
 use Rattle.matrix.specs.declared.vec.Vec3d.{Vec3d}
-use Rattle.farmgrid.specs.Placement.{WholeVec, WholeRange, WholeMatrix, Within, NonEmpty, GridPoint, Placement, sizes, turnedℤ, productℤ, placedCorner, placedLow, placedHigh}
+use Rattle.placed.specs.Placement.{WholeBox, sizes, turnedℤ}
+use Rattle.farmgrid.specs.Placement.{WholeVec, WholeRange, WholeMatrix, Within, NonEmpty, GridPoint, Placement, productℤ, placedCorner, placedLow, placedHigh}
 use Rattle.verdict.specs.declared.plane.Plane.{Plane}
 use Rattle.verdict.specs.declared.bbox.BBox3d.{BBox3d}
 
@@ -28,13 +29,7 @@ pub record AxisPlane (P : WholePlane) : Type 0 where
   pub segment : SegmentPlane P
   pub single : sizes (P .normal) ≡ 1
 
--- ---- boxes in whole numbers
-
--- a range from low to high, and the matrix that places it
-pub record WholeBox : Type 0 where
-  pub low : ℕ → ℤ
-  pub high : ℕ → ℤ
-  pub matrix : ℕ → ℕ → ℤ
+-- ---- boxes in whole numbers: a range from low to high, and the matrix that places it
 
 -- "A box's placed corners": corner k of eight, by axis
 abbrev pub placedCornerOf : WholeBox → ℕ → ℕ → ℤ

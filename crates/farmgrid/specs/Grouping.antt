@@ -12,7 +12,8 @@ use Rattle.verdict.specs.BBoxCalls.{combineCall, alignedRangeCall}
 use Rattle.verdict.specs.FrustumCalls.{intersectsBoxCall}
 use Rattle.group.specs.Group.{groupCall}
 use Rattle.whole.specs.Plane.{WholePlane}
-use Rattle.farmgrid.specs.FarmGrid.{AxisPlane, WholeBox}
+use Rattle.placed.specs.Placement.{WholeBox}
+use Rattle.farmgrid.specs.FarmGrid.{AxisPlane}
 use Rattle.farmgrid.specs.Records.{ViewRecord, BoxRecords, Accepted}
 use Rattle.farmgrid.specs.Combining.{Picked, Two, RangeExact}
 

@@ -1,13 +1,15 @@
 -- Whole-number points and matrices, and the quarter-turn placements of the farm grid. Definitions only.
--- A whole point is its coordinates by axis, 0, 1 and 2, and a whole matrix its numbers by row and column, from 0 to 3.
+-- A whole point is its coordinates by axis, 0, 1 and 2, and a whole matrix its numbers by row and column, from 0 to 3. `sizes p` adds up the sizes of three numbers, and
+-- `movedℤ f` moves a point by a matrix (placed/specs/Placement).
 use mathlib.Core.Path.{_≡_}
 use Prim.Native.Nat.{ℕ, zero, suc, _+_, _/_, _%_, _^_, _≤_, _<_}
 use mathlib.Core.Bool.{cond}
 use lib.Dec.{eqb}
 use lib.IntN.{ℤ, pos, natAbs, _+ℤ_, _*ℤ_}
-use lib.Signed.{ltZ, _≤ℤ_}
+use lib.Signed.{_≤ℤ_}
 use Rattle.number.specs.Limits.{gridLimit}
 use Rattle.whole.specs.Plane.{dotℤ}
+use Rattle.placed.specs.Placement.{columnℤ, movedℤ, sizes, smaller, larger}
 use Rattle.farmgrid.specs.Whole.{Whole}
 use Rattle.matrix.specs.declared.vec.Vec3d.{Vec3d}
 use Rattle.matrix.specs.declared.vec.Vec4d.{Vec4d}
@@ -48,27 +50,11 @@ pub record NonEmpty (low high : ℕ → ℤ) : Type 0 where
 abbrev pub dot4ℤ : (ℕ → ℤ) → (ℕ → ℤ) → ℤ
 dot4ℤ p q = dotℤ p q +ℤ p 3 *ℤ q 3
 
--- column j of a matrix
-abbrev pub columnℤ : (ℕ → ℕ → ℤ) → ℕ → ℕ → ℤ
-columnℤ f j i = f i j
-
--- a direction through a matrix: its row times each column
-abbrev pub turnedℤ : (ℕ → ℕ → ℤ) → (ℕ → ℤ) → ℕ → ℤ
-turnedℤ f p j = dotℤ p (columnℤ f j)
-
--- "It moves a point by the point operation": turned, and moved by the translation, which is the last row
-abbrev pub movedℤ : (ℕ → ℕ → ℤ) → (ℕ → ℤ) → ℕ → ℤ
-movedℤ f p j = turnedℤ f p j +ℤ f 3 j
-
 -- at row i and column j the row i of f times the column j of g
 abbrev pub productℤ : (ℕ → ℕ → ℤ) → (ℕ → ℕ → ℤ) → ℕ → ℕ → ℤ
 productℤ f g i j = dot4ℤ (f i) (columnℤ g j)
 
 -- ---- quarter-turn placements
-
--- the sizes of three numbers together; that is 1 where one of them is 1 or -1 and the others are 0, and only there
-abbrev pub sizes : (ℕ → ℤ) → ℕ
-sizes p = natAbs (p 0) + natAbs (p 1) + natAbs (p 2)
 
 -- "exactly one 1 or −1 and otherwise zeros in every row and column of its upper three by three; mirrors count"
 pub record QuarterTurn (f : ℕ → ℕ → ℤ) : Type 0 where
@@ -100,12 +86,6 @@ pub record Placed (m : Mat4d) (f : ℕ → ℕ → ℤ) : Type 0 where
 -- corner k of eight, counted as `Range.corner` counts them: along axis a the greatest where bit a of k is set
 abbrev pub cornerℤ : (ℕ → ℤ) → (ℕ → ℤ) → ℕ → ℕ → ℤ
 cornerℤ low high k a = cond (eqb (k / 2 ^ a % 2) 1) (high a) (low a)
-
-abbrev pub smaller : ℤ → ℤ → ℤ
-smaller a b = cond (ltZ b a) b a
-
-abbrev pub larger : ℤ → ℤ → ℤ
-larger a b = cond (ltZ a b) b a
 
 -- one of g 0, g 1, .., g n, picked by comparing them one after another
 unfoldable pub pickedOf : (ℤ → ℤ → ℤ) → ℕ → (ℕ → ℤ) → ℤ

@@ -16,7 +16,7 @@ use Rattle.matrix.specs.Matrix.{entry}
 use Rattle.matrix.specs.Range.{rangeOf, isEmpty}
 use Rattle.verdict.specs.BBox.{boxOf}
 use Rattle.verdict.specs.BBoxCalls.{flagged, alignedRangeCall}
-use Rattle.farmgrid.specs.FarmGrid.{WholeBox}
+use Rattle.placed.specs.Placement.{WholeBox}
 use Rattle.farmgrid.specs.Records.{BoxRecords, Accepted}
 use Rattle.farmgrid.specs.Grouping.{Mixed, EachRecord}
 

@@ -20,7 +20,8 @@ use Rattle.verdict.specs.View.{rayStart, volumeLength, planeCountOf, planesOf}
 use Rattle.whole.specs.Plane.{WholePlane}
 use Rattle.farmgrid.specs.Whole.{Whole}
 use Rattle.farmgrid.specs.Placement.{Placed}
-use Rattle.farmgrid.specs.FarmGrid.{WholeBox, IsPoint, ArePlanes, IsBox}
+use Rattle.placed.specs.Placement.{WholeBox}
+use Rattle.farmgrid.specs.FarmGrid.{IsPoint, ArePlanes, IsBox}
 
 -- ---- records, by what they are of
 

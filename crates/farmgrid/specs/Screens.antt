@@ -15,7 +15,8 @@ use Rattle.verdict.specs.BBoxCalls.{flagged}
 use Rattle.verdict.specs.View.{planesOf}
 use Rattle.verdict.specs.FrustumCalls.{intersectsPointCall, intersectsSegmentCall, intersectsBoxCall}
 use Rattle.whole.specs.Plane.{WholePlane}
-use Rattle.farmgrid.specs.FarmGrid.{SegmentPlane, AxisPlane, WholeBox}
+use Rattle.placed.specs.Placement.{WholeBox}
+use Rattle.farmgrid.specs.FarmGrid.{SegmentPlane, AxisPlane}
 use Rattle.farmgrid.specs.Records.{PointRecord, VolumeRecord, ViewRecord, BoxRecord}
 
 -- ---- records

@@ -12,8 +12,9 @@ use Rattle.matrix.specs.MatrixCalls.{transformCall as pointMoved}
 use Rattle.verdict.specs.BBoxCalls.{transformBoxCall as boxMoved}
 use Rattle.verdict.specs.FrustumCalls.{intersectsPointCall, intersectsSegmentCall, intersectsBoxCall}
 use Rattle.whole.specs.Plane.{WholePlane}
-use Rattle.farmgrid.specs.Placement.{GridPoint, movedℤ}
-use Rattle.farmgrid.specs.FarmGrid.{WholeBox, SegmentPlane, AxisPlane, GridBox, movedPlane, movedBox}
+use Rattle.placed.specs.Placement.{movedℤ, WholeBox}
+use Rattle.farmgrid.specs.Placement.{GridPoint}
+use Rattle.farmgrid.specs.FarmGrid.{SegmentPlane, AxisPlane, GridBox, movedPlane, movedBox}
 use Rattle.farmgrid.specs.Records.{PointRecord, ViewRecord, BoxRecord, TurnRecord, Accepted}
 
 -- ---- what is turned

@@ -6,7 +6,8 @@ use lib.Ieee.{Float}
 use Rattle.verdict.specs.FrustumCalls.{intersectsPointCall, intersectsSegmentCall, intersectsBoxCall}
 use Rattle.whole.specs.Plane.{WholePlane}
 use Rattle.exact.specs.ExactPoint.{InView, BoxInView}
-use Rattle.farmgrid.specs.FarmGrid.{SegmentPlane, AxisPlane, WholeBox, lowOf, highOf, exactly, Share, SegmentInView}
+use Rattle.placed.specs.Placement.{WholeBox}
+use Rattle.farmgrid.specs.FarmGrid.{SegmentPlane, AxisPlane, lowOf, highOf, exactly, Share, SegmentInView}
 use Rattle.farmgrid.specs.Records.{PointRecord, ViewRecord, BoxRecord, Settled}
 
 -- For segment planes and a grid point the verdict is yes exactly where the point satisfies all planes.
