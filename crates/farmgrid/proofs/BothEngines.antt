@@ -92,7 +92,7 @@ module _ {view : List ℤ} {v : List Float} (F : FloatsOf view v) where
       }
 
   -- from plane i on
-  planes-whole : (f : ℕ → Plane) (i n : ℕ) → ((j : ℕ) → f j ≡ planeAt v (i + j)) → planeStart (i + n) ≤ length view → every planeWithin (planesFrom view i n) ≡ true
+  pub planes-whole : (f : ℕ → Plane) (i n : ℕ) → ((j : ℕ) → f j ≡ planeAt v (i + j)) → planeStart (i + n) ≤ length view → every planeWithin (planesFrom view i n) ≡ true
       → ArePlanes SegmentPlane (tabulate f n) (planesFrom view i n)
   unfolding tabulate planesFrom every
   planes-whole f i zero g h e = none

@@ -41,7 +41,7 @@ same-side {O} {P} s X = (
     e = λ t. s .normal 0 (lit< tt) t *ℤ X .numbers 0 +ℤ s .normal 1 (lit< tt) t *ℤ X .numbers 1 +ℤ s .normal 2 (lit< tt) t *ℤ X .numbers 2
         -ℤ pos (X .k) *ℤ s .distance t
 
-same-view : {Os Ps : List WholePlane} → SamePlanes Os Ps → (X : ExactPoint) → InView Os X ↔ InView Ps X
+pub same-view : {Os Ps : List WholePlane} → SamePlanes Os Ps → (X : ExactPoint) → InView Os X ↔ InView Ps X
 same-view none X = (λ h. h, λ h. h)
 same-view (more s ss) X =
     let r = same-side s X in

@@ -7,14 +7,13 @@ use Prim.Native.Nat.{ℕ, zero, suc, _+_, _≤_, _<_}
 use native.Mathlib.Omega.{arith}
 use lib.Dec.{lit<}
 use lib.ListN.{length}
-use lib.IntN.{ℤ, pos, natAbs, _*ℤ_}
-use lib.Signed.{_≤ℤ_}
+use lib.IntN.{ℤ, natAbs}
 use lib.Ieee.{Float}
 use Rattle.number.specs.Limits.{rangeLength, gridLimit, normalLimit, distanceLimit}
 use Rattle.number.specs.Slice.{at}
 use Rattle.whole.specs.Plane.{WholePlane}
 use Rattle.whole.specs.SegmentCall.{numberAt, planeStart, planeAt as wholePlaneAt, planesFrom, viewLength}
-use Rattle.exact.specs.ExactPoint.{ExactPoint, Every, InBox}
+use Rattle.exact.specs.ExactPoint.{Every}
 use Rattle.verdict.specs.declared.plane.Plane.{Plane}
 use Rattle.verdict.specs.View.{tabulate, planeAt}
 use Rattle.verdict.specs.BBoxCalls.{alignedRangeCall}
@@ -23,13 +22,13 @@ use Rattle.farmgrid.specs.Placement.{GridPoint}
 use Rattle.farmgrid.specs.FarmGrid.{SegmentPlane, GridBox, IsPlane, ArePlanes, none, more, lowOf, highOf}
 use Rattle.farmgrid.specs.Records.{ViewRecord, BoxRecord}
 use Rattle.farmgrid.specs.WholeNumbers.{FloatsOf, SameView}
-use Rattle.farmgrid.specs.ExactBoxes.{SamePlane, SamePlanes, none as no-planes, more as plane-more, ViewOf, BoundsOf, RecordsExact, OneBlock}
+use Rattle.farmgrid.specs.ExactBoxes.{SamePlane, SamePlanes, none as no-planes, more as plane-more, ViewOf, BoundsOf, RecordsExact}
 use Rattle.farmgrid.proofs.Singles.{three}
 use Rattle.farmgrid.proofs.PlacedRanges.{placed, placed-is, placed-nonempty}
 use Rattle.farmgrid.proofs.Extents.{extreme-ind}
 use Rattle.farmgrid.proofs.BothEngines.{one-whole-number}
 use Rattle.farmgrid.proofs.CombinedRecords.{grid-stands, range-exact}
-use Rattle.farmgrid.proofs.ExactBoxes.{box-verdict-exact, same-answer}
+use Rattle.farmgrid.proofs.ExactBoxes.{box-verdict-exact}
 
 -- ---- the planes of a view
 
@@ -39,7 +38,7 @@ segment-alike {O} {P} s k = record {
   far = subst (λ (z : ℤ). natAbs z ≤ distanceLimit) (sym (s .distance)) (k .far);
 }
 
-kinds : {Os Ps : List WholePlane} {ps : List Plane} → SamePlanes Os Ps → ArePlanes SegmentPlane ps Ps → Every SegmentPlane Os
+pub kinds : {Os Ps : List WholePlane} {ps : List Plane} → SamePlanes Os Ps → ArePlanes SegmentPlane ps Ps → Every SegmentPlane Os
 kinds no-planes hs = tt
 kinds (plane-more s ss) (more h hs) = (segment-alike s (h .kind), kinds ss hs)
 
@@ -54,7 +53,7 @@ module _ {view : List ℤ} {v : List Float} (F : FloatsOf view v) where
         distance = one-whole-number (F .same (from + 3) h) (k .distance);
       }
 
-  planes-same : (f : ℕ → Plane) (i n : ℕ) {Ps : List WholePlane} → ((j : ℕ) → f j ≡ planeAt v (i + j)) → planeStart (i + n) ≤ length view
+  pub planes-same : (f : ℕ → Plane) (i n : ℕ) {Ps : List WholePlane} → ((j : ℕ) → f j ≡ planeAt v (i + j)) → planeStart (i + n) ≤ length view
       → ArePlanes SegmentPlane (tabulate f n) Ps → SamePlanes (planesFrom view i n) Ps
   unfolding tabulate planesFrom
   planes-same f i zero g h none = no-planes
@@ -81,7 +80,7 @@ view-of {view} {v} {Ps} R S =
 
 -- ---- the bounds of a placed box
 
-placed-grid : {B : WholeBox} → GridBox B → (u : Bool) → GridPoint (placed u (B .matrix) (B .low) (B .high))
+pub placed-grid : {B : WholeBox} → GridBox B → (u : Bool) → GridPoint (placed u (B .matrix) (B .low) (B .high))
 placed-grid {B} G u = record {
   size = λ j h. subst (λ (z : ℤ). natAbs z ≤ gridLimit) (sym (placed-is (G .placement) u (B .low) (B .high) j h))
       (extreme-ind (λ z. natAbs z ≤ gridLimit) u (movedℤ (B .matrix) (B .low) j) (movedℤ (B .matrix) (B .high) j)
@@ -110,23 +109,3 @@ bounds-of b out {box} {B} R room l F =
 pub records-exact : RecordsExact
 records-exact v b out view box w Ps B answer left D C room S l F r h =
     box-verdict-exact view box w Ps (lowOf B) (highOf B) answer left (view-of D S) (bounds-of b out C room l F) r h
-
-pub one-block : OneBlock
-one-block v b b' out out' view box box' w w' Ps B B' answer answer' left left' D C C' P room room' S l l' F F' r r' h h' =
-    same-answer (
-      λ q. record { point = q .point; held = there (q .held); seen = q .seen },
-      λ q. record { point = q .point; held = back (q .held); seen = q .seen },
-    )
-    (records-exact v b out view box w Ps B answer left D C room S l F r h .settled) (records-exact v b' out' view box' w' Ps B' answer' left' D C' room' S l' F' r' h' .settled)
-  where
-    there : {X : ExactPoint} → InBox (lowOf B) (highOf B) X → InBox (lowOf B') (highOf B') X
-    there {X} i = record {
-      least = λ j m. subst (λ (z : ℤ). (pos (X .k) *ℤ z) ≤ℤ X .numbers j) (P .least j m) (i .least j m);
-      greatest = λ j m. subst (λ (z : ℤ). X .numbers j ≤ℤ (pos (X .k) *ℤ z)) (P .greatest j m) (i .greatest j m);
-    }
-
-    back : {X : ExactPoint} → InBox (lowOf B') (highOf B') X → InBox (lowOf B) (highOf B) X
-    back {X} i = record {
-      least = λ j m. subst (λ (z : ℤ). (pos (X .k) *ℤ z) ≤ℤ X .numbers j) (sym (P .least j m)) (i .least j m);
-      greatest = λ j m. subst (λ (z : ℤ). X .numbers j ≤ℤ (pos (X .k) *ℤ z)) (sym (P .greatest j m)) (i .greatest j m);
-    }

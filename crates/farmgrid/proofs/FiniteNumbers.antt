@@ -40,20 +40,20 @@ unfolding allFinite
 each-finite [] h = refl
 each-finite (x ∷ s) h = λ t. h 0 (omega arith) t && each-finite s (λ i l. h (suc i) (omega arith)) t
 
-finite-at : (s : List Float) → allFinite s ≡ true → (i : ℕ) → i < length s → finite (at s i) ≡ true
+pub finite-at : (s : List Float) → allFinite s ≡ true → (i : ℕ) → i < length s → finite (at s i) ≡ true
 unfolding allFinite
 finite-at [] f i l = absurd (omega arith)
 finite-at (x ∷ s) f zero l = both-hold (finite x) (allFinite s) f .0
 finite-at (x ∷ s) f (suc i) l = finite-at s (both-hold (finite x) (allFinite s) f .1) i (omega arith)
 
 -- what holds below m, and of the n places from m on, holds below m + n
-joined : (P : ℕ → Type 0) (m n : ℕ) → ((i : ℕ) → i < m → P i) → ((i : ℕ) → i < n → P (m + i)) → (i : ℕ) → i < m + n → P i
+pub joined : (P : ℕ → Type 0) (m n : ℕ) → ((i : ℕ) → i < m → P i) → ((i : ℕ) → i < n → P (m + i)) → (i : ℕ) → i < m + n → P i
 joined P m n f g i l = by-test (λ t. P i) (leb m i)
     (λ t. let h = leb→le m i t in let e : m + (i - m) ≡ i = omega (arith, h) in subst P e (g (i - m) (omega (arith, h, l))))
     (λ t. f i (nleb→lt m i t))
 
 -- fours of places, one behind another
-by-fours : (P : ℕ → Type 0) (n : ℕ) → ((i j : ℕ) → i < n → j < 4 → P (i * 4 + j)) → (k : ℕ) → k < n * 4 → P k
+pub by-fours : (P : ℕ → Type 0) (n : ℕ) → ((i j : ℕ) → i < n → j < 4 → P (i * 4 + j)) → (k : ℕ) → k < n * 4 → P k
 by-fours P n f k l =
     let e = div-add-mod' k 4 in
     let m = mod-lt k (lit< tt) in
@@ -117,7 +117,7 @@ box-record-finite {b} R = box-finite b (R .numbers) (is-true (flagged b) (R .fla
 -- ---- views
 
 module _ {Kind : WholePlane → Type 0} where
-  each-plane : (K : ℕ → Type 0) (f : ℕ → Plane) → ((k : ℕ) (P : WholePlane) → IsPlane Kind (f k) P → K k) → (n : ℕ) {Ps : List WholePlane}
+  pub each-plane : (K : ℕ → Type 0) (f : ℕ → Plane) → ((k : ℕ) (P : WholePlane) → IsPlane Kind (f k) P → K k) → (n : ℕ) {Ps : List WholePlane}
       → ArePlanes Kind (tabulate f n) Ps → (k : ℕ) → k < n → K k
   unfolding tabulate
   each-plane K f g zero hs k l = absurd (omega arith)

@@ -69,6 +69,9 @@ pub mod CombinedBoxes
 pub mod PlacedCorners
 pub mod CombinedRecords
 pub mod ExactRecords
+pub mod WholeFloats
+pub mod GridRecords
+pub mod ExactByRecords
 pub mod Totals
 pub mod Combining
 pub mod Groups

@@ -135,6 +135,24 @@ module _ {pick : Float → Float → Float} {pickℤ : ℤ → ℤ → ℤ} (K :
 
 -- ---- a range through a placement
 
+-- a placed corner has along an axis the coordinate of the least or of the greatest one
+pub placed-either : {b : ℕ} {f : ℕ → ℕ → ℤ} → PlacementWithin b f → (low high : ℕ → ℤ) (j : ℕ) → j < 3 → (i : ℕ)
+    → (placedCorner f low high j i ≡ movedℤ f low j) ⊎ (placedCorner f low high j i ≡ movedℤ f high j)
+placed-either {f = f} F low high j h i = by-bit (cornerℤ low high i) (eqb (i / 2 ^ k % 2) 1) refl
+  where
+    from : Single (columnℤ f j)
+    from = source (F .turn) j h
+
+    k : ℕ
+    k = from .from
+
+    alike : (p q : ℕ → ℤ) → p k ≡ q k → movedℤ f p j ≡ movedℤ f q j
+    alike p q e = moved-is F p j h ∙ ap (λ (z : ℤ). flip (from .sign) z +ℤ f 3 j) e ∙ sym (moved-is F q j h)
+
+    by-bit : (p : ℕ → ℤ) (u : Bool) → p k ≡ cond u (high k) (low k) → (movedℤ f p j ≡ movedℤ f low j) ⊎ (movedℤ f p j ≡ movedℤ f high j)
+    by-bit p false e = inl (alike p low e)
+    by-bit p true e = inr (alike p high e)
+
 module _ {pick : Float → Float → Float} {pickℤ : ℤ → ℤ → ℤ} (K : Picks pick pickℤ) {b : ℕ} {f : ℕ → ℕ → ℤ} (F : PlacementWithin b f)
     (low high : ℕ → ℤ) (j : ℕ) (h : j < 3) where
   abbrev from : Single (columnℤ f j)
@@ -142,20 +160,7 @@ module _ {pick : Float → Float → Float} {pickℤ : ℤ → ℤ → ℤ} (K :
 
   -- of the eight placed corners
   corner-picked : pickedOf pickℤ 7 (placedCorner f low high j) ≡ pickℤ (movedℤ f low j) (movedℤ f high j)
-  corner-picked = picked-last K (placedCorner f low high j) (movedℤ f low j) (movedℤ f high j) refl either 6 refl
-    where
-      k : ℕ
-      k = from .from
-
-      alike : (p q : ℕ → ℤ) → p k ≡ q k → movedℤ f p j ≡ movedℤ f q j
-      alike p q e = moved-is F p j h ∙ ap (λ (z : ℤ). flip (from .sign) z +ℤ f 3 j) e ∙ sym (moved-is F q j h)
-
-      by-bit : (p : ℕ → ℤ) (u : Bool) → p k ≡ cond u (high k) (low k) → (movedℤ f p j ≡ movedℤ f low j) ⊎ (movedℤ f p j ≡ movedℤ f high j)
-      by-bit p false e = inl (alike p low e)
-      by-bit p true e = inr (alike p high e)
-
-      either : (i : ℕ) → (placedCorner f low high j i ≡ movedℤ f low j) ⊎ (placedCorner f low high j i ≡ movedℤ f high j)
-      either i = by-bit (cornerℤ low high i) (eqb (i / 2 ^ k % 2) 1) refl
+  corner-picked = picked-last K (placedCorner f low high j) (movedℤ f low j) (movedℤ f high j) refl (placed-either F low high j h) 6 refl
 
   -- of the sums that the code makes: it adds to the translation what is picked along each axis, which is 0 but for the source
   abbrev along : ℕ → ℤ

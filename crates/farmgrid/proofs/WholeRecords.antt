@@ -27,7 +27,7 @@ use Rattle.farmgrid.proofs.WholeSegment.{whole-segment-is}
 pub grid-point : (A : ℕ → ℤ) → pointWithin A ≡ true → GridPoint A
 grid-point A e = let s = point-sizes A e in record { size = three (λ i. natAbs (A i) ≤ gridLimit) (s .0) (s .1) (s .2) }
 
-point-passes : (A : ℕ → ℤ) → GridPoint A → pointWithin A ≡ true
+pub point-passes : (A : ℕ → ℤ) → GridPoint A → pointWithin A ≡ true
 point-passes A g = λ t. le-leb _ _ (g .size 0 (lit< tt)) t && le-leb _ _ (g .size 1 (lit< tt)) t && le-leb _ _ (g .size 2 (lit< tt)) t
 
 pub segment-plane : (P : WholePlane) → planeWithin P ≡ true → SegmentPlane P

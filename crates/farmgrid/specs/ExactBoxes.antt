@@ -83,20 +83,6 @@ RecordsExact =
     → SameView view v → length box ≡ rangeLength → FloatsOf box (alignedRangeCall b out .out) → length w ≡ witnessLength
     → WholeBoxCall view box w answer left → Exact Ps (lowOf B) (highOf B) w answer left
 
--- two grid boxes that are placed alike, by whatever ranges and placements
-pub record OnePlace (B B' : WholeBox) : Type 0 where
-  pub least : (j : ℕ) → j < 3 → lowOf B j ≡ lowOf B' j
-  pub greatest : (j : ℕ) → j < 3 → highOf B j ≡ highOf B' j
-
--- Two records of one placed block get one answer.
-abbrev pub OneBlock : Type 0
-OneBlock =
-    (v b b' out out' : List Float) (view box box' w w' : List ℤ) (Ps : List WholePlane) (B B' : WholeBox) (answer answer' : Outcome Bool) (left left' : List ℤ)
-    → ViewRecord SegmentPlane v Ps → BoxRecord b B → BoxRecord b' B' → OnePlace B B' → length out ≡ rangeLength → length out' ≡ rangeLength
-    → SameView view v → length box ≡ rangeLength → length box' ≡ rangeLength
-    → FloatsOf box (alignedRangeCall b out .out) → FloatsOf box' (alignedRangeCall b' out' .out) → length w ≡ witnessLength → length w' ≡ witnessLength
-    → WholeBoxCall view box w answer left → WholeBoxCall view box' w' answer' left' → answer ≡ answer'
-
 -- ---- a plane more, and a turn
 
 -- A plane more, at any place of the list, never turns a no into a yes.

@@ -9,6 +9,7 @@ pub mod Screens
 pub mod BlockingPlane
 pub mod WholeNumbers
 pub mod ExactBoxes
+pub mod ExactByRecords
 pub mod FiledApart
 pub mod Nearest
 pub mod Survey
