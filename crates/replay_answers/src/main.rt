@@ -1,8 +1,9 @@
 // Replays answers recorded from Rust. For each operation the program writes how many of its records the
-// crates `number`, `matrix`, `verdict`, `camera`, `group`, `nearest`, `whole` and `blocking` agree with, and how many it read.
+// crates `number`, `matrix`, `verdict`, `camera`, `group`, `nearest`, `whole`, `blocking`, `exact` and `placed` agree with, and how many it read.
 mod blocking_operations;
 mod calls;
 mod camera_operations;
+mod exact_operations;
 mod group_operations;
 mod matrix_operations;
 mod nearest_operations;
@@ -105,6 +106,11 @@ fn print_blocking_counts(agreed: &[u64; 256], read: &[u64; 256]) {
     print_count(b"blocking_plane", 229, agreed, read);
 }
 
+fn print_exact_counts(agreed: &[u64; 256], read: &[u64; 256]) {
+    print_count(b"whole_intersects_bbox", 232, agreed, read);
+    print_count(b"exact_bbox", 233, agreed, read);
+}
+
 fn main() {
     let mut agreed = [0u64; 256];
     let mut read = [0u64; 256];
@@ -122,4 +128,5 @@ fn main() {
     print_nearest_counts(&agreed, &read);
     print_whole_counts(&agreed, &read);
     print_blocking_counts(&agreed, &read);
+    print_exact_counts(&agreed, &read);
 }

@@ -26,7 +26,7 @@ fn whole(x: f64) -> i32 {
 }
 
 // Numbers as whole numbers, to the front of a slice, as many as it has room for.
-fn put_wholes(numbers: &[f64], wholes: &mut [i32]) {
+pub(crate) fn put_wholes(numbers: &[f64], wholes: &mut [i32]) {
     let mut i: usize = 0;
     while i < numbers.len() && i < wholes.len() {
         wholes[i] = whole(numbers[i]);
