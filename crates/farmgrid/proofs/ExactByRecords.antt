@@ -7,7 +7,7 @@ use mathlib.Core.List.{List, [], _∷_}
 use Prim.Native.Nat.{ℕ, _<_}
 use native.Mathlib.Omega.{arith}
 use borrow.Author.Tests.{eqb-true}
-use lib.Dec.{T, leb}
+use lib.Dec.{leb}
 use lib.ListN.{length}
 use lib.IntN.{ℤ, pos, _*ℤ_}
 use lib.Signed.{_≤ℤ_}
@@ -30,11 +30,11 @@ use Rattle.verdict.proofs.VerdictChecks.{one-input}
 use Rattle.verdict.proofs.VerdictCalls.{box-call}
 use Rattle.placed.specs.Numbers.{areWholeNumbers}
 use Rattle.placed.specs.Placement.{WholeBox, placedLeast, placedGreatest, isGridBox}
-use Rattle.placed.specs.BBoxCall.{countIn, viewNumbers, planesIn, boxNumbers, boxIn, onGrid, Decides, ByGrid, After, ExactBoxCall}
+use Rattle.placed.specs.BBoxCall.{viewNumbers, planesIn, boxNumbers, boxIn, onGrid, Decides, ByGrid, After, ExactBoxCall}
 use Rattle.placed.proofs.Counted.{counted, counted-in}
 use Rattle.farmgrid.specs.FarmGrid.{SegmentPlane, AxisPlane, ArePlanes, none, more, lowOf, highOf}
 use Rattle.farmgrid.specs.Records.{ViewRecord, BoxRecord, Settled}
-use Rattle.farmgrid.specs.ExactByRecords.{ByRecords, OnePlace, OneBlock, FiledAgreesByRecords, GridRecords, Answered, SevenOffGrid}
+use Rattle.farmgrid.specs.ExactByRecords.{ByRecords, OneBlock, FiledAgreesByRecords, GridRecords, Answered, SevenOffGrid}
 use Rattle.farmgrid.proofs.FiniteNumbers.{box-record-finite, view-finite}
 use Rattle.farmgrid.proofs.Answers.{box-answer}
 use Rattle.farmgrid.proofs.Verdicts.{box-exact}

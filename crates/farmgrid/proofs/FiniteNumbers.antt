@@ -40,7 +40,7 @@ unfolding allFinite
 each-finite [] h = refl
 each-finite (x ∷ s) h = λ t. h 0 (omega arith) t && each-finite s (λ i l. h (suc i) (omega arith)) t
 
-pub finite-at : (s : List Float) → allFinite s ≡ true → (i : ℕ) → i < length s → finite (at s i) ≡ true
+finite-at : (s : List Float) → allFinite s ≡ true → (i : ℕ) → i < length s → finite (at s i) ≡ true
 unfolding allFinite
 finite-at [] f i l = absurd (omega arith)
 finite-at (x ∷ s) f zero l = both-hold (finite x) (allFinite s) f .0

@@ -1,52 +1,48 @@
 -- Records on the grid, by the tests of the exact verdict: a view by segment planes and a grid box pass them, with the whole numbers that they are of; and what passes them
 -- is a view by segment planes and a grid box. Assumes nothing.
 use mathlib.Core.Path.{_≡_, refl, sym, ap, subst, _∙_}
-use mathlib.Core.Logic.{_⊎_, inl, inr}
+use mathlib.Core.Logic.{inl, inr}
 use mathlib.Core.Bool.{Bool, true, false, not, cond, _&&_}
 use mathlib.Core.List.{List, [], _∷_}
-use Prim.Native.Nat.{ℕ, zero, suc, _+_, _-_, _*_, _≤_, _<_}
+use Prim.Native.Nat.{ℕ, zero, suc, _+_, _*_, _≤_, _<_}
 use native.Mathlib.Nat.{le-trans}
 use native.Mathlib.Omega.{arith}
-use borrow.Author.Tests.{le-leb, eq-eqb, eqb-true}
-use lib.Dec.{T, lit<, lit≤, eqb}
-use lib.ListN.{length, length-map, drop, take, getD}
-use lib.Seq.{length-take-le, getD-take, getD-drop}
+use borrow.Author.Tests.{le-leb, eq-eqb}
+use lib.Dec.{T, lit<, lit≤}
+use lib.ListN.{length, length-map, drop, getD}
+use lib.Seq.{length-take-le, getD-take}
 use lib.IntN.{ℤ, pos, natAbs, _+ℤ_, _*ℤ_}
 use lib.Signed.{leZ, ltZ, _≤ℤ_, leZ-yes, ltZ-yes, ltZ-no, clashℤ}
 use lib.Ieee.{Float, nan}
 use lib.Ieee.Bits.{is-true}
 use lib.Ieee.Scale.{finite}
-use Rattle.number.specs.Limits.{flagPlace, boxLength, gridLimit, normalLimit, distanceLimit, fewestPlanes, mostPlanes}
+use Rattle.number.specs.Limits.{flagPlace, boxLength, gridLimit, normalLimit, distanceLimit}
 use Rattle.number.specs.Every.{every}
 use Rattle.number.specs.Slice.{at, allFinite}
 use Rattle.number.proofs.Tests.{both-hold}
-use Rattle.matrix.specs.Vec.{axis}
-use Rattle.matrix.specs.Matrix.{entry}
 use Rattle.whole.specs.Plane.{WholePlane}
-use Rattle.whole.specs.SegmentCall.{numberAt, planesOf, viewLength, within, pointWithin, planeWithin}
+use Rattle.whole.specs.SegmentCall.{numberAt, planesOf, viewLength, pointWithin, planeWithin}
 use Rattle.whole.proofs.Integer.{le-is, lt-is, eq-is}
-use Rattle.verdict.specs.View.{planeAt, planesHeld, planeStart, rayStart, volumeLength}
-use Rattle.verdict.specs.BBox.{boxOf}
+use Rattle.verdict.specs.View.{planeAt, planeStart, rayStart}
 use Rattle.verdict.specs.BBoxCalls.{flagged}
 use Rattle.placed.specs.Numbers.{truncated, isWholeNumber, areWholeNumbers, wholeNumbers}
 use Rattle.placed.specs.Placement.{WholeBox, columnℤ, movedℤ, sizes, smaller, larger, placedLeast, placedGreatest, sameNumber, gridAlong, quarterTurned, isGridBox}
-use Rattle.placed.specs.Placement.{boxOf as wholeBoxOf}
 use Rattle.placed.specs.BBoxCall.{countIn, viewNumbers, planesIn, boxNumbers, boxIn, onGrid}
 use Rattle.placed.specs.Steps.{Counted}
 use Rattle.placed.proofs.Calls.{each, number-of}
 use Rattle.placed.proofs.Counted.{counted}
 use Rattle.placed.proofs.Moved.{Along, quarter}
 use Rattle.farmgrid.specs.Whole.{Whole}
-use Rattle.farmgrid.specs.Placement.{GridPoint, NonEmpty, Placement, placedLow, placedHigh}
+use Rattle.farmgrid.specs.Placement.{Placement}
 use Rattle.farmgrid.specs.FarmGrid.{SegmentPlane, GridBox, IsPlane, lowOf, highOf}
 use Rattle.farmgrid.specs.Records.{ViewRecord, BoxRecord}
 use Rattle.farmgrid.specs.WholeNumbers.{FloatsOf}
 use Rattle.farmgrid.specs.ExactBoxes.{SamePlanes}
 use Rattle.farmgrid.proofs.Singles.{three, four}
 use Rattle.farmgrid.proofs.WholeFloats.{number-whole, cut-whole, whole-number}
-use Rattle.farmgrid.proofs.FiniteNumbers.{joined, by-fours, each-plane, finite-at}
+use Rattle.farmgrid.proofs.FiniteNumbers.{joined, by-fours, each-plane}
 use Rattle.farmgrid.proofs.WholeRecords.{grid-point, point-passes, planes-pass}
-use Rattle.farmgrid.proofs.QuarterTurns.{upper-size, source, moved-is}
+use Rattle.farmgrid.proofs.QuarterTurns.{upper-size}
 use Rattle.farmgrid.proofs.PlacedRanges.{placed-is}
 use Rattle.farmgrid.proofs.BothEngines.{planes-whole}
 use Rattle.farmgrid.proofs.Answers.{passed}

@@ -2,7 +2,7 @@
 -- the digits of a whole number divided by its power of two leave its size. Assumes nothing.
 use mathlib.Core.Path.{_≡_, refl, sym, ap, subst, _∙_}
 use mathlib.Core.Bool.{Bool, true, false, cond, _&&_}
-use Prim.Native.Nat.{ℕ, suc, _+_, _-_, _*_, _/_, _^_, min, _≤_, _<_}
+use Prim.Native.Nat.{ℕ, suc, _-_, _*_, _/_, _^_, min, _≤_, _<_}
 use native.Mathlib.Nat.{le-div-iff-mul-le, div-lt-iff-lt-mul, le-trans}
 use native.Mathlib.Omega.{arith}
 use borrow.Author.Tests.{leb-true, le-leb}
@@ -16,7 +16,7 @@ use Rattle.number.specs.Limits.{distanceLimit}
 use Rattle.number.specs.Grid.{signed}
 use Rattle.number.proofs.Tests.{both-hold}
 use Rattle.whole.specs.SegmentCall.{within}
-use Rattle.whole.proofs.Integer.{hi, lo, Of, of-self, of-pos, of-neg, of-times, of-eq}
+use Rattle.whole.proofs.Integer.{hi, lo, of-self, of-pos, of-neg, of-times, of-eq}
 use Rattle.placed.specs.Numbers.{truncated, isWholeNumber}
 use Rattle.farmgrid.specs.Whole.{Whole}
 use Rattle.farmgrid.proofs.Value.{At, at-scale}

@@ -18,10 +18,10 @@ use Rattle.number.specs.Answer.{Outcome, refused, result}
 use Rattle.number.specs.Every.{every}
 use Rattle.number.specs.Slice.{at}
 use Rattle.number.proofs.Tests.{both-hold}
-use Rattle.whole.specs.SegmentCall.{numberAt, planesOf, viewLength, countOf, within, pointWithin, planeWithin}
+use Rattle.whole.specs.SegmentCall.{numberAt, viewLength, countOf, within, pointWithin, planeWithin}
 use Rattle.whole.proofs.Integer.{of-self as self, of-le, of-min, of-max}
-use Rattle.exact.specs.ExactPoint.{ExactPoint, InBox, BoxInView}
-use Rattle.exact.specs.BBoxCall.{lowCorner, highCorner, witnessLength, axisWithin, boxWithin, Decided, Answers, WholeBoxCall}
+use Rattle.exact.specs.ExactPoint.{ExactPoint, InBox}
+use Rattle.exact.specs.BBoxCall.{lowCorner, highCorner, witnessLength, boxWithin, Decided, Answers, WholeBoxCall}
 use Rattle.exact.proofs.Calls.{on-grid, off-grid}
 use Rattle.verdict.specs.FrustumCalls.{intersectsBoxCall}
 use Rattle.placed.specs.Numbers.{truncated, isWholeNumber, areWholeNumbers, wholeNumbers}

@@ -3,12 +3,12 @@
 use mathlib.Core.Path.{_≡_, refl, sym, ap, subst, _∙_}
 use mathlib.Core.Bool.{Bool, true, false, _&&_, true≢false}
 use mathlib.Core.List.{List}
-use Prim.Native.Nat.{ℕ, _*_, _/_, _-_, _^_, min, _≤_, _<_}
+use Prim.Native.Nat.{ℕ}
 use native.Mathlib.Omega.{arith}
 use lib.Dec.{leb}
 use lib.ListN.{length}
 use lib.IntN.{pos}
-use lib.Ieee.{Float, nan, inf, fin, up, down, le, eq, toUnsigned, toSigned}
+use lib.Ieee.{Float, nan, inf, fin, le, eq, toUnsigned, toSigned}
 use Rattle.number.specs.Limits.{fewestPlanes, mostPlanes}
 use Rattle.number.specs.Answer.{Outcome, refused, result, unless, has}
 use Rattle.number.specs.Slice.{at}

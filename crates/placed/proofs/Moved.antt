@@ -1,11 +1,11 @@
 -- The placed box of a record on the grid: its numbers as the code reads them are those of its definition, and they are small. Assumes nothing.
 use mathlib.Core.Path.{_≡_, refl, ap, subst, sym, _∙_}
-use mathlib.Core.Bool.{Bool, true, _&&_}
+use mathlib.Core.Bool.{true, _&&_}
 use mathlib.Core.List.{List, [], _∷_}
 use Prim.Native.Nat.{ℕ, zero, suc, _+_, _*_, _≤_, _<_}
 use native.Mathlib.Omega.{arith}
 use borrow.Author.Tests.{leb-true, eqb-true}
-use lib.Dec.{lit<, eqb}
+use lib.Dec.{eqb}
 use lib.ListN.{length, set}
 use lib.IntN.{ℤ, pos, natAbs, _+ℤ_, _*ℤ_}
 use lib.Signed.{leZ}
@@ -15,9 +15,9 @@ use Rattle.whole.specs.Plane.{dotℤ}
 use Rattle.whole.specs.SegmentCall.{numberAt, within}
 use Rattle.whole.proofs.Integer.{min-ind, max-ind}
 use Rattle.placed.specs.declared.placement.Vec3.{Vec3}
-use Rattle.placed.specs.Placement.{WholeBox, boxOf, movedℤ, columnℤ, sizes, smaller, larger, placedLeast, placedGreatest, sameNumber, gridAlong, quarterTurned}
+use Rattle.placed.specs.Placement.{WholeBox, boxOf, movedℤ, columnℤ, sizes, placedLeast, placedGreatest, sameNumber, gridAlong, quarterTurned}
 use Rattle.placed.specs.Steps.{vecOf, vec, Sized, cornerAt, columnAt, BoxNumbers, Placing}
-use Rattle.placed.proofs.Registers.{R, kept, kept-as, moved-small}
+use Rattle.placed.proofs.Registers.{R, kept-as, moved-small}
 
 -- ---- a column, as the code finds it
 column-is : (s : List ℤ) (j k : ℕ) → numberAt s (6 + j + k * 4) ≡ boxOf s .matrix k j

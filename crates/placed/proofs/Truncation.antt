@@ -18,7 +18,6 @@ use Rattle.whole.specs.SegmentCall.{within}
 use Rattle.number.proofs.Tests.{both-hold}
 use Rattle.whole.proofs.Integer.{abs-neg}
 use Rattle.whole.proofs.Registers.{held-fits}
-use Rattle.placed.specs.declared.numbers.Whole.{Whole}
 use Rattle.placed.specs.declared.numbers.Whole.the-variants.{Number, Other}
 use Rattle.placed.specs.Numbers.{truncated, isWholeNumber}
 use Rattle.placed.specs.Steps.{wholeOf}

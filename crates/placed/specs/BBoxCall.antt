@@ -5,7 +5,6 @@ use mathlib.Core.Bool.{Bool, true, false, _&&_}
 use mathlib.Core.List.{List}
 use Prim.Native.Nat.{ℕ}
 use lib.ListN.{take}
-use lib.IntN.{ℤ}
 use lib.Ieee.{Float}
 use Rattle.number.specs.Limits.{flagPlace}
 use Rattle.number.specs.Answer.{Outcome, refused, result, Lone, putVerdict}

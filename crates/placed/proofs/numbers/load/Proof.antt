@@ -12,9 +12,6 @@ use Rattle.placed.proofs.Truncation.{says-number, says-other, whole-sma
 use Rattle.placed.proofs.Loading.{stored, holds, fails, all-stored, all-hold}
 use Rattle.placed.proofs.numbers.load.Statement.{statement}
 use Rattle.placed.proofs.numbers.load.Tie as tie
-use Rattle.placed.proofs.numbers.load.Reads as reads
-use Rattle.placed.proofs.numbers.load.Lts as lts
-use Rattle.placed.proofs.numbers.whole_of.Reads as whole-of-reads
 
 abbrev Inv-loop : tie.InvT-loop
 Inv-loop from out₀ i₀ out i =

@@ -16,8 +16,6 @@ use Rattle.placed.proofs.Registers.{kept-as}
 use Rattle.placed.proofs.Moved.{sized-read, box-sized, column-sizes, translation-is}
 use Rattle.placed.proofs.placement.grid_along.Statement.{statement}
 use Rattle.placed.proofs.placement.grid_along.Tie as tie
-use Rattle.placed.proofs.placement.grid_along.Reads as reads
-use Rattle.placed.proofs.placement.grid_along.Lts as lts
 
 is-single-requires : tie.Need-is-single-requires
 is-single-requires c κs =

@@ -1,5 +1,5 @@
 -- `least` meets its contract: the two opposite corners, moved. Assumes nothing.
-use mathlib.Core.Path.{_≡_, sym, subst, _∙_}
+use mathlib.Core.Path.{sym, subst, _∙_}
 use Prim.Native.Nat.{_+_, _≤_}
 use native.Mathlib.Omega.{arith}
 use borrow.Author.Needs.{needs}
@@ -11,8 +11,6 @@ use Rattle.placed.proofs.Registers.{kept-as}
 use Rattle.placed.proofs.Moved.{sized-read, moved-read, low-small, high-small, least-small}
 use Rattle.placed.proofs.placement.least.Statement.{statement}
 use Rattle.placed.proofs.placement.least.Tie as tie
-use Rattle.placed.proofs.placement.least.Reads as reads
-use Rattle.placed.proofs.placement.least.Lts as lts
 
 moved-requires : tie.Need-moved-requires
 moved-requires c κs =

@@ -9,8 +9,6 @@ use Rattle.placed.specs.Placement.{sameNumber}
 use Rattle.placed.proofs.Registers.{kept-as}
 use Rattle.placed.proofs.placement.quarter_turned.Statement.{statement}
 use Rattle.placed.proofs.placement.quarter_turned.Tie as tie
-use Rattle.placed.proofs.placement.quarter_turned.Reads as reads
-use Rattle.placed.proofs.placement.quarter_turned.Lts as lts
 
 returns : tie.Need-returns
 returns c =
