@@ -23,6 +23,8 @@ mod judge;
 mod lent;
 mod op;
 mod ops;
+#[cfg(test)]
+mod planted;
 mod program;
 mod reader;
 mod record;

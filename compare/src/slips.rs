@@ -2,25 +2,13 @@
 //! by the files that are tried.
 
 use crate::farm::{FarmFiles, Reader};
-use crate::inputs::Rng;
 use crate::judge::MOST_PLANES;
+use crate::planted::{found, slips};
 use crate::reader::BOXES;
 use crate::rust::{boxed, plane};
 use crate::trial::Trial;
 use openusd::gf::{Plane, Screens};
-use std::ops::Range;
 use std::slice;
-
-macro_rules! slips {
-    ($($slip:ident)*) => {
-        #[derive(Clone, Copy, Debug, PartialEq)]
-        enum Slip {
-            $($slip,)*
-        }
-
-        const ALL: &[Slip] = &[$(Slip::$slip,)*];
-    };
-}
 
 slips! {
     None
@@ -545,9 +533,6 @@ fn a_second_reader_agrees() {
 fn each_slip_is_found() {
     for &slip in ALL.iter().filter(|&&slip| slip != Slip::None) {
         let farm = FarmFiles::of(Some(reader(slip)));
-        let fixed = farm.cases(0);
-        let found = |mut cases: Range<u64>| cases.any(|case| farm.agree(case, Rng::at(1, case)).is_none());
-        assert!(found(0..fixed), "{slip:?} passes the fixed files");
-        assert!(found(fixed..fixed + 200_000), "{slip:?} passes the drawn files");
+        assert_eq!(found(&farm, 200_000), [true; 2], "{slip:?} by the fixed files, and by the drawn ones");
     }
 }

@@ -3,20 +3,9 @@
 
 use super::*;
 use crate::judge::NO_COUNT;
+use crate::planted::{found, slips};
 use crate::rust::plane;
 use openusd::gf::{Plane, Screens};
-use std::ops;
-
-macro_rules! slips {
-    ($($slip:ident)*) => {
-        #[derive(Clone, Copy, Debug, PartialEq)]
-        enum Slip {
-            $($slip,)*
-        }
-
-        const ALL: &[Slip] = &[$(Slip::$slip,)*];
-    };
-}
 
 slips! {
     None
@@ -362,9 +351,7 @@ fn side(slip: Slip) -> Box<dyn Side> {
 fn each_slip_is_found() {
     for &slip in ALL {
         let batch = Batch::of(Some(side(slip)));
-        let found = |mut cases: ops::Range<u64>| cases.any(|case| batch.agree(case, Rng::at(1, case)).is_none());
-        let fixed = batch.cases(0);
-        let by = [found(0..fixed), found(fixed..fixed + 60_000)];
+        let by = found(&batch, 60_000);
         assert_eq!(by, [slip != Slip::None; 2], "{slip:?} by the fixed inputs, and by the drawn ones");
     }
 }

@@ -3,20 +3,8 @@
 
 use super::*;
 use crate::judge::{MISSING_NUMBER, NO_COUNT, WRONG_INPUT};
+use crate::planted::{found, slips};
 use crate::rust::counted;
-use crate::trial::Trial;
-use std::ops;
-
-macro_rules! slips {
-    ($($slip:ident)*) => {
-        #[derive(Clone, Copy, Debug, PartialEq)]
-        enum Slip {
-            $($slip,)*
-        }
-
-        const ALL: &[Slip] = &[$(Slip::$slip,)*];
-    };
-}
 
 slips! {
     None
@@ -286,9 +274,7 @@ fn side(slip: Slip) -> Box<dyn Side> {
 fn each_slip_is_found() {
     for &slip in ALL {
         let call = of_segment().by(side(slip));
-        let found = |mut cases: ops::Range<u64>| cases.any(|case| call.agree(case, Rng::at(1, case)).is_none());
-        let fixed = call.cases(0);
-        let by = [found(0..fixed), found(fixed..fixed + 60_000)];
+        let by = found(&call, 60_000);
         assert_eq!(by, [slip != Slip::None; 2], "{slip:?} by the fixed inputs, and by the drawn ones");
     }
 }

@@ -2,23 +2,10 @@
 //! are refused: each must be found by the inputs that are tried.
 
 use super::*;
-use crate::inputs::Rng;
 use crate::judge::{MISSING_NUMBER, NO_COUNT, NO_SUCH_VALUE, WRONG_INPUT};
 use crate::lent::{Input, Ins, Lent, Pointer, Side};
+use crate::planted::{found, slips};
 use crate::rust::counted;
-use crate::trial::Trial;
-use std::ops;
-
-macro_rules! slips {
-    ($($slip:ident)*) => {
-        #[derive(Clone, Copy, Debug, PartialEq)]
-        enum Slip {
-            $($slip,)*
-        }
-
-        const ALL: &[Slip] = &[$(Slip::$slip,)*];
-    };
-}
 
 slips! {
     None
@@ -268,11 +255,8 @@ fn side(slip: Slip, kind: Kind) -> Box<dyn Side> {
 fn each_is_found<I: Input>(kind: Kind, call: fn() -> Call<I>) {
     for &slip in ALL {
         let call = call().by(side(slip, kind));
-        let found = |mut cases: ops::Range<u64>| cases.any(|case| call.agree(case, Rng::at(1, case)).is_none());
-        let fixed = call.cases(0);
-        let (by_fixed, by_drawn) = (found(0..fixed), found(fixed..fixed + 100_000));
-        assert_eq!(by_fixed, shows(slip, kind), "{kind:?}, {slip:?} by the fixed inputs");
-        assert_eq!(by_drawn, shows(slip, kind), "{kind:?}, {slip:?} by the drawn inputs");
+        let by = found(&call, 100_000);
+        assert_eq!(by, [shows(slip, kind); 2], "{kind:?}, {slip:?} by the fixed inputs, and by the drawn ones");
     }
 }
 

@@ -2,18 +2,7 @@
 //! that are tried.
 
 use super::*;
-use std::ops;
-
-macro_rules! slips {
-    ($($slip:ident)*) => {
-        #[derive(Clone, Copy, Debug, PartialEq)]
-        enum Slip {
-            $($slip,)*
-        }
-
-        const ALL: &[Slip] = &[$(Slip::$slip,)*];
-    };
-}
+use crate::planted::{found, slips};
 
 slips! {
     None
@@ -218,10 +207,7 @@ fn side(slip: Slip) -> Box<dyn Side> {
 fn each_slip_is_found() {
     for &slip in ALL {
         let engine = Engine::of(Some(side(slip)));
-        let found = |mut cases: ops::Range<u64>| cases.any(|case| engine.agree(case, Rng::at(1, case)).is_none());
-        let fixed = engine.cases(0);
-        let (by_fixed, by_drawn) = (found(0..fixed), found(fixed..fixed + 100_000));
-        assert_eq!(by_fixed, slip != Slip::None, "{slip:?} by the fixed inputs");
-        assert_eq!(by_drawn, slip != Slip::None, "{slip:?} by the drawn inputs");
+        let by = found(&engine, 100_000);
+        assert_eq!(by, [slip != Slip::None; 2], "{slip:?} by the fixed inputs, and by the drawn ones");
     }
 }
