@@ -5,7 +5,7 @@
  * and all numbers. The functions keep nothing from call to call, so that threads may call them at once.
  *
  * What is lent. A slice is two parameters: a pointer, and a length counted in what it points to: numbers (double), whole numbers
- * (int32_t), the bytes of a farm file, or slots (uint32_t). The caller owes, and nothing tests:
+ * (int32_t; int64_t for a witness), the bytes of a farm file, or slots (uint32_t). The caller owes, and nothing tests:
  *
  *   - a pointer is not null, even where its length is 0; it is aligned for what it points to, and points to at least as many
  *     numbers as the length says, or to one where it has no length beside it;
@@ -24,7 +24,7 @@
  *   4  a matrix is singular
  *   5  a miss
  *   6  a matrix is not a projection
- *   7  a coordinate is off the grid, or a whole number is past its limit there
+ *   7  a coordinate is off the grid, or a whole number is past its limit there; a plane or a box is none of the farm grid
  *   8  a number of a camera is not finite
  *   9  a farm file is too short, or its directory does not say where its sections lie
  *   10 a section of a farm file is not as long as its record
@@ -37,9 +37,9 @@
  * are never written. Where more than one refusal applies, the one that "Refuses" lists first is returned. A result of several
  * numbers goes into a slice, `double *out, size_t out_len`. A lone number goes into one `double *out`, a yes or no into one
  * `uint32_t *out`, 1 for yes and 0 for no, and a place or a count into one `uint32_t`; these have no length, so no 2 is given.
- * Places count from 0; none is GF_NO_PLACE, which also fills slots that are not used.
+ * Places count from 0; none is GF_NO_PLACE, which also fills slots that are not used. A witness is written with a yes alone.
  *
- * NaN and infinities. A verdict, a yes or no about a view, is given on finite numbers alone: the gf_intersects_ functions,
+ * NaN and infinities. A verdict, a yes or no about a view, is given on finite numbers alone: the gf_intersects_ functions, gf_exact_bbox,
  * gf_blocking_plane and gf_farm_file refuse a NaN or an infinity with 13, anywhere in what they are lent. To every other function
  * NaN and infinities may be lent anywhere, and the arithmetic is that of IEEE 754. A comparison with a NaN is false: a NaN
  * distance is on no plane's positive side, a NaN alone does not make a range empty, a NaN flag or kind is refused with 3, a NaN
@@ -63,6 +63,8 @@
  *                         those of sheds and screens that cut it; then four rays along the edges of the view, from its near
  *                         corners left bottom, left top, right top, right bottom. That is 49 numbers for six planes
  *   view 1 + 4n           of whole numbers: the same count, then n planes, without rays. That is 25 numbers for six planes
+ *   placed box 6          of whole numbers: least corner, greatest corner
+ *   witness 4             of whole numbers of 64 bits: x, y, z and k, at least 1, of the point x/k, y/k, z/k
  *
  * Below, "In" gives the length of each slice lent for reading, "Out" what is written with status 0, and "Refuses" the
  * refusals that the function can give, in their order.
@@ -337,6 +339,7 @@ uint32_t gf_intersects_triangle(const double *volume, size_t volume_len, const d
  * one on the farm grid by planes whose normal is a single 1 or -1. A box with an empty range is not in view. One whose matrix has
  * no inverse, its determinant's size not above 1e-13 or, where products overflow, a NaN, is taken as if its matrix were the identity.
  * The rays have no part in it but for 13. 3: the flag is neither 0, of either sign, nor 1. 13: also of a box with an empty range.
+ * On the farm grid gf_exact_bbox has neither fault.
  * In: volume, bbox 23. Out: yes or no. Refuses: 1, 12, 1, 3, 13. */
 uint32_t gf_intersects_bbox(const double *volume, size_t volume_len, const double *bbox, size_t bbox_len, uint32_t *out);
 
@@ -364,7 +367,7 @@ uint32_t gf_intersects_view_volume(const double *bbox, size_t bbox_len, const do
  * In: volume, p0 3, p1 3. Out: a place. Refuses: 1, 12, 1, 13, 14. */
 uint32_t gf_blocking_plane(const double *volume, size_t volume_len, const double *p0, size_t p0_len, const double *p1, size_t p1_len, uint32_t *place);
 
-/* ---- a verdict in whole numbers: no float is read, made or written. An end's coordinates are at most 65536 in size, the entries
+/* ---- verdicts in whole numbers: no float is read, made or written. Coordinates are at most 65536 in size, the entries
  * of a normal at most 128, a distance at most 16777216: the numbers of the farm grid */
 
 /* Whether any of the segment from p0 to p1, its ends included, is on the positive side of every plane, exactly. At each plane an
@@ -377,6 +380,31 @@ uint32_t gf_blocking_plane(const double *volume, size_t volume_len, const double
  * any plane or of an end is past its limit.
  * In: view, p0 3, p1 3. Out: yes or no. Refuses: 1, 12, 1, 7. */
 uint32_t gf_whole_intersects_segment(const int32_t *view, size_t view_len, const int32_t *p0, size_t p0_len, const int32_t *p1, size_t p1_len, uint32_t *out);
+
+/* Whether a placed box, its faces included, and the view share a point, exactly, whatever directions the planes have. A point
+ * satisfies a plane if point times normal, less the distance, is at least 0, so that touching counts. A normal of zeros is
+ * satisfied by every point where the distance is at most 0, and else by none. With a yes the witness is written, which is such a
+ * point: x, y and z lie from k times the least to k times the greatest coordinate, and x, y, z times each normal is at least k
+ * times the distance. It is any point that is one. A no has none, and the witness keeps its numbers. For planes whose normal is a
+ * single 1 or -1 and that share a point the verdict is that of gf_intersects_bbox; for others it need not be. 1: the box has not
+ * 6 numbers, or the view has fewer than 25; 12: the count is outside its limits; 1: the view has not 4 numbers for each plane
+ * that it counts; 2: the witness has not 4 numbers; 7: a number of any plane or of the box is past its limit, or a least
+ * coordinate is above its greatest.
+ * In: view, box 6. Out: yes or no, and with a yes a witness. Refuses: 1, 12, 1, 2, 7. */
+uint32_t gf_whole_intersects_bbox(const int32_t *view, size_t view_len, const int32_t *box, size_t box_len, int64_t *witness, size_t witness_len, uint32_t *out);
+
+/* ---- the exact verdict on a box from its records */
+
+/* Whether the placed box, its faces included, and the view share a point, exactly: gf_whole_intersects_bbox on the volume's
+ * planes and on the box's least and greatest placed corner. So two records of one placed box get one answer. It is there for the
+ * farm grid alone, and refuses what is none of it. All refusals of gf_intersects_bbox come first, and then 7: a plane's normal
+ * has an entry that is not whole or above 128 in size, or its distance is not whole or above 16777216; or the box is no grid box.
+ * A grid box has a range with whole corners of size at most 65536, of which no least coordinate is above its greatest, and a
+ * matrix whose upper three by three has one 1 or -1 and two zeros in every row and column, a whole translation of size at most
+ * 65536 and the last column 0, 0, 0, 1; and its placed corners are of size at most 65536. A zero of either sign is 0 in all of
+ * these, and a normal of zeros is allowed. The rays have no part in it but for 13.
+ * In: volume, bbox 23. Out: yes or no. Refuses: 1, 12, 1, 3, 13, 7. */
+uint32_t gf_exact_bbox(const double *volume, size_t volume_len, const double *bbox, size_t bbox_len, uint32_t *out);
 
 /* ---- the numbers that the other operations are made of. These return their result and refuse nothing */
 

@@ -1,5 +1,11 @@
 //! Exact verdicts on the farm grid, by whole numbers alone.
 
+mod boxes;
+mod vertices;
+
+pub use boxes::*;
+pub use vertices::*;
+
 use crate::inputs::{ClipBox, ExactPoint, Whole, WholeMatrix, WholePlane};
 
 /// Whether a point satisfies all planes.
@@ -135,7 +141,9 @@ pub fn each_side(b: &ClipBox, camera: &WholeMatrix) -> bool {
 #[cfg(test)]
 mod tests {
     use super::*;
-    use crate::inputs::{self, BESIDE_EDGE, FarmBox, Rng, Turn, WHOLE_CUBE, WHOLE_IDENTITY, among_others, grazing, near_tie};
+    use crate::inputs::{
+        self, BESIDE_EDGE, FarmBox, Rng, Turn, WHOLE_CUBE, WHOLE_IDENTITY, among_others, grazing, near_tie,
+    };
 
     /// Both ways, on crossings that coincide or all but do.
     #[test]

@@ -1,15 +1,16 @@
 //! The farm grid by a second judge, exact whole numbers: verdicts, turns,
 //! combining, what is nearest, both engines on lines that graze, which plane
-//! hides a line, and clip space. The Rust is judged as the archive is.
+//! hides a line, clip space, and blocks under planes in any direction. The Rust
+//! is judged as the archive is.
 
 use crate::exact;
 use crate::inputs::{
-    self, FarmBox, Rng, Turn, Whole, WholeAsked, WholePlane, among_others, farm_volume, floats, on_grid,
+    self, FarmBox, Rng, Turn, Whole, WholeAsked, WholeBox, WholePlane, among_others, farm_volume, floats, on_grid,
 };
-use crate::judge::{IN_VIEW, NO_PLACE};
+use crate::judge::{FEWEST_PLANES, IN_VIEW, NO_PLACE};
 use crate::lent::{Ins, Lent, Side};
 use crate::op::Op;
-use crate::ops::whole_lent;
+use crate::ops::{whole_box_lent, whole_lent};
 use crate::trial::{Outcome, Trial};
 use std::fmt::Debug;
 
@@ -29,9 +30,11 @@ enum Ask {
     WholeSegment,
     ViewVolume,
     Blocking,
+    WholeBox,
+    ExactBox,
 }
 
-const NAMES: [&str; 13] = [
+const NAMES: [&str; 15] = [
     "intersects_point",
     "intersects_segment",
     "intersects_bbox",
@@ -45,6 +48,8 @@ const NAMES: [&str; 13] = [
     "whole_intersects_segment",
     "intersects_view_volume",
     "blocking_plane",
+    "whole_intersects_bbox",
+    "exact_bbox",
 ];
 
 /// One who answers: the Rust, or the archive.
@@ -101,6 +106,26 @@ impl Engine<'_> {
         let mut out = [0.0];
         self.lend(Ask::WholeSegment, &whole_lent(asked), Lent::to_write(&mut out))?;
         Ok(out[0].to_bits() as u32 == 1)
+    }
+
+    /// The exact verdict on a box in whole numbers, of which a yes is to come
+    /// with a point of both, and a no to leave what was there. Beside the Rust,
+    /// which has no such engine, this is a plain search.
+    fn shared(&self, planes: &[WholePlane], corners: [Whole; 2]) -> Result<bool, String> {
+        let before = [1, -2, 3, -4];
+        let (mut out, mut witness) = ([0.0], before);
+        let asked = WholeBox::of(planes, corners);
+        let ins = whole_box_lent(&asked, &mut witness);
+        self.lend(Ask::WholeBox, &ins, Lent::to_write(&mut out))?;
+        let verdict = out[0].to_bits() as u32 == 1;
+        let right = if verdict { exact::is_shared(planes, corners, witness) } else { witness == before };
+        self.expect("whether the witness is right", right, true, &(planes, corners, witness))?;
+        Ok(verdict)
+    }
+
+    /// The exact verdict on a box's record.
+    fn exact(&self, planes: &[WholePlane], record: &[f64; 23]) -> Result<bool, String> {
+        self.verdict(Ask::ExactBox, &[farm_volume(planes).numbers(), record])
     }
 
     /// The place of the plane that hides a segment; nothing where the segment is
@@ -166,6 +191,12 @@ pub fn all(ops: &[Box<dyn Op>]) -> Vec<Farm<'_>> {
         farm("grazing lines", &[Ask::Segment, Ask::WholeSegment], grazing_lines),
         farm("hidden lines", &[Ask::Blocking], hidden_lines),
         farm("points in clip space", &[Ask::ViewVolume], clipped),
+        farm("oblique blocks", &[Ask::WholeBox], oblique_blocks),
+        farm("turned oblique blocks", &[Ask::WholeBox], turned_blocks),
+        farm("blocks and a plane more", &[Ask::WholeBox], screened_blocks),
+        farm("records of blocks", &[Ask::WholeBox, Ask::ExactBox], block_records),
+        farm("turned records of blocks", &[Ask::ExactBox, Ask::Product], turned_records),
+        farm("blocks by axis planes", &[Ask::Box, Ask::WholeBox, Ask::ExactBox], axis_blocks),
     ]
 }
 
@@ -442,6 +473,105 @@ fn clipped(engines: &[Engine], case: u64, rng: &mut Rng) -> Result<usize, String
         engine.expect("a box in clip space", verdict, by_corners, &(given, camera))?;
     }
     Ok(outcome(inside))
+}
+
+/// Blocks that touch a plane, an edge or a corner of the view, or just do not.
+fn oblique_blocks(engines: &[Engine], _: u64, rng: &mut Rng) -> Result<usize, String> {
+    let (planes, corners) = inputs::oblique(rng);
+    let exact = exact::shares_a_point(&planes, corners);
+    for engine in engines {
+        engine.expect("a block", engine.shared(&planes, corners)?, exact, &(&planes, corners))?;
+    }
+    Ok(outcome(exact))
+}
+
+fn turned_corners([a, b]: [Whole; 2], turn: &Turn) -> [Whole; 2] {
+    FarmBox { min: a, max: b, placement: *turn, flag: false }.placed()
+}
+
+fn turned_blocks(engines: &[Engine], case: u64, rng: &mut Rng) -> Result<usize, String> {
+    let (planes, corners) = inputs::oblique(rng);
+    let turn = turn_of(rng, case, &planes, |turn| turned_corners(corners, turn).into_iter().all(on_grid));
+    let exact = exact::shares_a_point(&planes, corners);
+    for engine in engines {
+        engine.expect("a block", engine.shared(&planes, corners)?, exact, &(&planes, corners))?;
+        let after = engine.shared(&turned(&planes, &turn), turned_corners(corners, &turn))?;
+        engine.expect("a block turned with its planes", after, exact, &(&planes, corners, turn))?;
+    }
+    Ok(outcome(exact))
+}
+
+/// A plane more, at any place, never turns a no into a yes.
+fn screened_blocks(engines: &[Engine], _: u64, rng: &mut Rng) -> Result<usize, String> {
+    let (planes, corners) = loop {
+        let (planes, corners) = inputs::oblique(rng);
+        if planes.len() > FEWEST_PLANES {
+            break (planes, corners);
+        }
+    };
+    let mut fewer = planes.clone();
+    fewer.remove(rng.below(planes.len() as u64) as usize);
+    let exact = exact::shares_a_point(&planes, corners);
+    for engine in engines {
+        let (before, after) = (engine.shared(&fewer, corners)?, engine.shared(&planes, corners)?);
+        engine.expect("a block", after, exact, &(&planes, corners))?;
+        engine.expect("a no that a plane more makes a yes", after && !before, false, &(&fewer, &planes, corners))?;
+    }
+    Ok(outcome(exact))
+}
+
+/// A record's verdict is that of its placed box in whole numbers, and of two
+/// records of one placed block it is one.
+fn block_records(engines: &[Engine], _: u64, rng: &mut Rng) -> Result<usize, String> {
+    let (planes, corners) = inputs::oblique(rng);
+    let blocks = [(); 2].map(|_| inputs::placed_block(rng, corners));
+    let mut records = blocks.map(|block| block.record());
+    records.iter_mut().for_each(|record| inputs::any_zeros(rng, record));
+    let exact = exact::shares_a_point(&planes, corners);
+    for engine in engines {
+        engine.expect("a block", engine.shared(&planes, corners)?, exact, &(&planes, corners))?;
+        for record in &records {
+            engine.expect("a block's record", engine.exact(&planes, record)?, exact, &(&planes, corners, record))?;
+        }
+    }
+    Ok(outcome(exact))
+}
+
+/// A record's placement takes the product with the turn.
+fn turned_records(engines: &[Engine], case: u64, rng: &mut Rng) -> Result<usize, String> {
+    let (planes, corners) = inputs::oblique(rng);
+    let block = inputs::placed_block(rng, corners);
+    let after = |turn: &Turn| FarmBox { placement: block.placement.then(turn), ..block };
+    let turn = turn_of(rng, case, &planes, |turn| after(turn).within_limits());
+    let exact = exact::shares_a_point(&planes, corners);
+    for engine in engines {
+        engine.expect("a block's record", engine.exact(&planes, &block.record())?, exact, &(&planes, block))?;
+        let placement: [f64; 16] = engine.numbers(Ask::Product, &[&block.placement.matrix(), &turn.matrix()])?;
+        let mut moved = block.record();
+        moved[6..22].copy_from_slice(&placement);
+        let verdict = engine.exact(&turned(&planes, &turn), &moved)?;
+        engine.expect("a record turned with its planes", verdict, exact, &(&planes, block, turn))?;
+    }
+    Ok(outcome(exact))
+}
+
+/// For axis planes that share a point the filed verdict is the exact one.
+fn axis_blocks(engines: &[Engine], _: u64, rng: &mut Rng) -> Result<usize, String> {
+    let (planes, given) = loop {
+        let (six, given) = inputs::farm_box_view(rng);
+        let planes = among_others(rng, &six);
+        if exact::share_a_point(&planes) {
+            break (planes, given);
+        }
+    };
+    let exact = exact::shares_a_point(&planes, given.placed());
+    for engine in engines {
+        let filed = engine.verdict(Ask::Box, &[farm_volume(&planes).numbers(), &given.record()])?;
+        engine.expect("the filed verdict on a block", filed, exact, &(&planes, given))?;
+        engine.expect("a block", engine.shared(&planes, given.placed())?, exact, &(&planes, given))?;
+        engine.expect("a block's record", engine.exact(&planes, &given.record())?, exact, &(&planes, given))?;
+    }
+    Ok(outcome(exact))
 }
 
 impl Trial for Farm<'_> {

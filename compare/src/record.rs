@@ -72,10 +72,12 @@ mod tests {
                 227 => &[1, 7, 12],
                 228 => &[1, 3, 12, 13],
                 229 => &[1, 12, 13, 14],
+                232 => &[1, 7, 12],
+                233 => &[1, 3, 7, 12, 13],
                 _ => &[],
             };
             assert_eq!(statuses, refusals.iter().copied().chain([0]).collect(), "{}", op.name());
-            if matches!(op.code(), 109 | 110 | 210 | 218..=222 | 227) {
+            if matches!(op.code(), 109 | 110 | 210 | 218..=222 | 227 | 232 | 233) {
                 assert!(seen.contains(&(0, Some(0))) && seen.contains(&(0, Some(1))), "{}", op.name());
             }
         }

@@ -174,7 +174,7 @@ pub(super) fn whole_normal(rng: &mut Rng) -> Whole {
 
 /// A plane which a point is `reach` beyond, if there is such a plane within
 /// the limits.
-fn plane_by(rng: &mut Rng, p: Whole, reach: i64) -> WholePlane {
+pub(super) fn plane_by(rng: &mut Rng, p: Whole, reach: i64) -> WholePlane {
     for _ in 0..4 {
         let normal = whole_normal(rng);
         let plane = WholePlane { normal, distance: whole_dot(normal, p) - reach };
@@ -227,7 +227,7 @@ pub fn among_others(rng: &mut Rng, six: &[WholePlane; 6]) -> Vec<WholePlane> {
 }
 
 /// A plane that every grid point satisfies.
-fn idle_plane(rng: &mut Rng) -> WholePlane {
+pub(super) fn idle_plane(rng: &mut Rng) -> WholePlane {
     let normal = rng.pick(&[[0, 0, 0], [1, 0, 0], [0, -1, 0], [2, 3, -5]]);
     WholePlane { normal, distance: -COORDINATE * 10 }
 }

@@ -77,14 +77,14 @@ impl SurveyedFarm {
 }
 
 /// Anywhere on a farm.
-fn somewhere(rng: &mut Rng, side: f64) -> [f64; 2] {
+pub(super) fn somewhere(rng: &mut Rng, side: f64) -> [f64; 2] {
     [rng.between(-0.5, 0.5) * side, rng.between(0.0, 1.0) * side]
 }
 
 /// The camera on a mast of 12 to 25 m. It looks north, up to 15 degrees to
 /// either side and up to 5 down, as far as the farm is wide, 60 degrees
 /// across.
-fn mast_camera(rng: &mut Rng, side: f64) -> gf::Frustum {
+pub(super) fn mast_camera(rng: &mut Rng, side: f64) -> gf::Frustum {
     let (turn, down) = (rng.between(-15.0, 15.0).to_radians(), rng.between(0.0, 5.0).to_radians());
     let forward = [down.cos() * turn.sin(), down.cos() * turn.cos(), -down.sin()];
     let right = [turn.cos(), -turn.sin(), 0.0];

@@ -5,6 +5,7 @@ mod batch;
 mod bbox;
 mod blocking;
 mod camera;
+mod exact_box;
 mod group;
 mod matrix;
 mod nearest;
@@ -15,8 +16,10 @@ mod range;
 mod ray;
 mod verdict;
 mod whole;
+mod whole_box;
 
 pub use whole::whole_lent;
+pub use whole_box::whole_box_lent;
 
 use crate::op::Op;
 
@@ -36,6 +39,8 @@ pub fn all() -> Vec<Box<dyn Op>> {
         whole::all(),
         batch::all(),
         blocking::all(),
+        whole_box::all(),
+        exact_box::all(),
     ];
     files.into_iter().flatten().collect()
 }
@@ -45,6 +50,6 @@ mod tests {
     #[test]
     fn codes_are_in_the_order_of_the_functions() {
         let codes: Vec<u64> = super::all().iter().map(|op| op.code()).collect();
-        assert_eq!(codes, (1..=7).chain(101..=116).chain(201..=229).collect::<Vec<u64>>());
+        assert_eq!(codes, (1..=7).chain(101..=116).chain(201..=229).chain([232, 233]).collect::<Vec<u64>>());
     }
 }

@@ -414,6 +414,7 @@ fn of_box() -> Call<(Volume, Boxed)> {
     let many_tested = call!(221 gf_intersects_bbox(volume: Volume, b: 23) -> bool { box_seen(volume, count_by_length(volume), b, true) });
     call!(221 gf_intersects_bbox(volume: Volume, b: 23) -> bool { box_seen(volume, held(volume)?, b, true) })
         .fixed(fixed.chain(counts).chain(walls).collect())
+        .tried(super::exact_box::parted())
         .mended(mended_boxes)
         .missing(&struck.collect::<Vec<_>>())
         .drawn(|_, rng| inputs::volume_and_box(rng))
