@@ -289,29 +289,29 @@ pub fn with_screens(rng: &mut Rng, six: &[WholePlane; 6], count: usize) -> Vec<W
     planes
 }
 
-/// The view of the most planes, and the box, on which our search takes longest
-/// of 200,000 that were tried: half of them drawn, half by changing the slowest
-/// before by an entry or two.
+/// The view of the most planes, and the box, on which our search has the most
+/// steps of 4,800,000 that were tried: half of them drawn, half by changing an
+/// entry or a few of the one before that had the most.
 pub fn dearest() -> (Vec<WholePlane>, FarmBox) {
     let planes = DEAREST.map(|[x, y, z, distance]| WholePlane { normal: [x, y, z], distance });
-    (planes.to_vec(), FarmBox { min: [-20_000; 3], max: [20_000; 3], placement: Turn::numbered(0), flag: false })
+    (planes.to_vec(), FarmBox { min: [-60_000; 3], max: [60_000; 3], placement: Turn::numbered(0), flag: false })
 }
 
 const DEAREST: [[i64; 4]; MOST_PLANES] = [
-    [-76, -59, 89, -2_148_876],
-    [127, -52, 117, 1_199_795],
-    [77, -15, 54, 986_081],
-    [-70, -43, -44, -1_996_765],
-    [-20, 103, -4, 1_554_886],
-    [102, 101, 86, 3_679_257],
-    [95, 100, 125, 3_722_680],
-    [48, -15, 24, 472_985],
-    [-10, 30, -54, 254_177],
-    [109, 32, 79, 2_452_913],
-    [-125, -30, -8, -2_390_589],
-    [108, -64, -47, 116_611],
-    [-50, -113, 107, -2_542_807],
-    [-16, 57, -24, 873_879],
+    [-39, 128, 6, 300_068],
+    [-90, 58, 92, -2_848_573],
+    [74, -80, -48, 1_643_513],
+    [-61, 106, -21, -648_056],
+    [105, 96, 90, 6_577_131],
+    [-59, -128, 19, -5_126_341],
+    [-72, 84, 44, -1_510_895],
+    [128, -7, -127, 5_448_767],
+    [106, -127, -9, 2_191_095],
+    [-18, 86, 79, 940_346],
+    [-121, 72, -118, -4_013_062],
+    [-117, 85, 100, -3_447_892],
+    [-67, 88, 2, -1_235_365],
+    [-128, -73, -57, -7_133_699],
 ];
 
 /// A box by whole numbers as it is lent, each slice of any length.

@@ -119,7 +119,6 @@ fn turned(i: u64) -> Boxed {
 /// Boxes that are just no grid boxes, and such as just are.
 fn nearly() -> Vec<Boxed> {
     let limit = COORDINATE as f64;
-    let unplaced = |range: Range| box_of(range, IDENTITY, 0.0);
     let placed = |entries: &[(usize, f64)]| box_of(UNIT, with(IDENTITY, entries), 0.0);
     let mut all = vec![
         unplaced(UNIT),
@@ -226,55 +225,68 @@ fn dearest_block() -> (Volume, Boxed) {
     (farm_volume(&planes), block.record())
 }
 
-fn of_block() -> Call<(Volume, Boxed)> {
-    let unplaced = |range: Range| box_of(range, IDENTITY, 0.0);
-    let mut fixed = parted();
-    fixed.extend(nearly().into_iter().map(|b| (Volume::of(CUBE), b)));
-    fixed.extend(any_rays().into_iter().map(|volume| (volume, unplaced(UNIT))));
+/// A range with a half, and one with a number missing besides.
+const HALF: Range = [0.0, 0.0, 0.0, 0.5, 1.0, 1.0];
+const UNMEASURED: Range = [0.0, 0.0, 0.0, 0.5, f64::NAN, 1.0];
+
+fn unplaced(range: Range) -> Boxed {
+    box_of(range, IDENTITY, 0.0)
+}
+
+/// What goes wrong in such a reading.
+fn always() -> Vec<(Volume, Boxed)> {
+    let cube = || Volume::of(CUBE);
+    let mut all: Vec<(Volume, Boxed)> = nearly().into_iter().map(|b| (cube(), b)).collect();
+    all.extend(nearly_planes().into_iter().chain(any_rays()).map(|volume| (volume, unplaced(UNIT))));
     // What touches by construction, and any, with zeros of either sign.
     for case in 0..120 {
         let rng = &mut Rng::at(2, case);
         let (planes, corners) = inputs::oblique(rng);
         let (mut volume, mut b) = (farm_volume(&planes), inputs::placed_block(rng, corners).record());
-        fixed.push((volume, b));
+        all.push((volume, b));
         inputs::negative_zeros(volume.numbers_mut());
         inputs::negative_zeros(&mut b);
-        fixed.push((volume, b));
+        all.push((volume, b));
     }
-    // One placed block by each turn, and of each zero the other.
-    for i in 0..Turn::COUNT {
-        let [slope, _] = [1, 2].map(|i| parted()[i].0);
-        let mut b = turned(i);
-        fixed.push((slope, b));
+    // A block by each turn, and of each zero the other.
+    let slope = parted()[1].0;
+    for mut b in (0..Turn::COUNT).map(turned) {
+        all.push((slope, b));
         inputs::negative_zeros(&mut b);
-        fixed.push((Volume::of(CUBE), b));
+        all.push((cube(), b));
     }
     // A count that is none comes before a flag that is none.
-    fixed.extend(odd_counts().flat_map(|volume| [0.0, 0.5].map(|flag| (volume, box_of(UNIT, IDENTITY, flag)))));
+    all.extend(odd_counts().flat_map(|volume| [0.0, 0.5].map(|flag| (volume, box_of(UNIT, IDENTITY, flag)))));
     // A flag that is none, and a missing number, before the grid.
-    let half = with(UNIT, &[(3, 0.5)]);
-    let unmeasured = with(half, &[(4, f64::NAN)]);
-    fixed.extend([
-        (Volume::of(CUBE), box_of(half, IDENTITY, 0.5)),
-        (Volume::of(CUBE), box_of(half, IDENTITY, f64::NAN)),
-        (Volume::of(CUBE), unplaced(unmeasured)),
+    all.extend([
+        (cube(), box_of(HALF, IDENTITY, 0.5)),
+        (cube(), box_of(HALF, IDENTITY, f64::NAN)),
+        (cube(), unplaced(UNMEASURED)),
         (Volume::of(with(CUBE, &[(0, 0.5)])), unplaced(with(UNIT, &[(0, f64::INFINITY)]))),
-        (Volume::of(with(CUBE, &[(47, f64::NAN)])), unplaced(half)),
+        (Volume::of(with(CUBE, &[(47, f64::NAN)])), unplaced(HALF)),
     ]);
-    let mut mended_boxes = mended().map(|volume| (volume, box_of(unmeasured, IDENTITY, 0.5))).to_vec();
-    mended_boxes.extend([unmeasured, half, UNIT].map(|range| (Volume::of(CUBE), unplaced(range))));
+    all
+}
+
+/// One in so many of these is recorded.
+const RECORDED: usize = 14;
+
+fn of_block() -> Call<(Volume, Boxed)> {
+    let recorded = parted().into_iter().chain(always().into_iter().step_by(RECORDED));
+    let mut mended_boxes = mended().map(|volume| (volume, box_of(UNMEASURED, IDENTITY, 0.5))).to_vec();
+    mended_boxes.extend([UNMEASURED, HALF, UNIT].map(|range| (Volume::of(CUBE), unplaced(range))));
     // In view; of an empty range; no grid box; with no flag; outside.
     let asked = [
         unplaced(UNIT),
         unplaced([1.0, 0.0, 0.0, 0.0, 1.0, 1.0]),
-        box_of(half, IDENTITY, 1.0),
+        box_of(HALF, IDENTITY, 1.0),
         box_of(UNIT, IDENTITY, 0.5),
         unplaced([-2.0, 0.0, 0.0, -1.0, 1.0, 1.0]),
     ];
     let struck = struck_volumes().into_iter().flat_map(|volume| asked.map(|b| (volume, b)));
     call!(233 gf_exact_bbox(volume: Volume, b: 23) -> bool { block_seen(volume, b) })
-        .fixed(fixed)
-        .tried(nearly_planes().into_iter().map(|volume| (volume, unplaced(UNIT))).collect())
+        .fixed(recorded.collect())
+        .tried(always())
         .mended(mended_boxes)
         .missing(&struck.collect::<Vec<_>>())
         .drawn(|_, rng| inputs::exact_box(rng))
