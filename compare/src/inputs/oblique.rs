@@ -386,7 +386,7 @@ pub fn whole_box(rng: &mut Rng) -> WholeBox {
         let (view, count) = (asked.view.len(), asked.view.first().copied().unwrap_or(0));
         let (corners, room) = (asked.corners.len(), asked.room);
         asked = match rng.below(12) {
-            0..4 if view > 0 => {
+            0..4 if view > 0 && asked.limited() > 0 => {
                 let place = rng.below(asked.limited() as u64) as usize;
                 asked.extreme(place, rng.below(EXTREMES.len() as u64) as usize)
             }
