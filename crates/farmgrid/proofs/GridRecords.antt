@@ -29,7 +29,8 @@ use Rattle.placed.specs.Numbers.{truncated, isWholeNumber, areWholeNumbers, who
 use Rattle.placed.specs.Placement.{WholeBox, columnℤ, movedℤ, sizes, smaller, larger, placedLeast, placedGreatest, sameNumber, gridAlong, quarterTurned, isGridBox}
 use Rattle.placed.specs.BBoxCall.{countIn, viewNumbers, planesIn, boxNumbers, boxIn, onGrid}
 use Rattle.placed.specs.Steps.{Counted}
-use Rattle.placed.proofs.Calls.{each, number-of}
+use Rattle.placed.proofs.Loading.{each}
+use Rattle.placed.proofs.Calls.{number-of}
 use Rattle.placed.proofs.Counted.{counted}
 use Rattle.placed.proofs.Moved.{Along, quarter}
 use Rattle.farmgrid.specs.Whole.{Whole}

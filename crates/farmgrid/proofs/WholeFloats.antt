@@ -18,6 +18,7 @@ use Rattle.number.proofs.Tests.{both-hold}
 use Rattle.whole.specs.SegmentCall.{within}
 use Rattle.whole.proofs.Integer.{hi, lo, of-self, of-pos, of-neg, of-times, of-eq}
 use Rattle.placed.specs.Numbers.{truncated, isWholeNumber}
+use Rattle.placed.proofs.Truncation.{cut}
 use Rattle.farmgrid.specs.Whole.{Whole}
 use Rattle.farmgrid.proofs.Value.{At, at-scale}
 use Rattle.farmgrid.proofs.Compare.{eq-at}
@@ -54,25 +55,6 @@ number-whole x e =
     (of-whole binary64 (truncated x) (le-trans (leb-true (natAbs (truncated x)) distanceLimit (h .0)) (lit≤ tt)))
 
 -- ---- a whole number is cut to itself
-
-quotient : (n k d : ℕ) → 0 < d → n * 1 ≡ k * d → n / d ≡ k
-quotient n k d h e =
-    let l : k ≤ n / d = le-div-iff-mul-le h .1 (omega arith) in
-    let u : n / d < suc k = div-lt-iff-lt-mul h .1 (omega arith) in
-    omega arith
-
-cut : (x : Float) (s : Bool) (k : ℕ) → k ≤ distanceLimit → HasValue x s k 1 → truncated x ≡ signed s k
-unfolding toSigned
-cut nan s k h v = absurd v
-cut (inf t) s k h v = absurd v
-cut (fin true m e) s k h v =
-    let q = quotient (m * up e) k (down e) (down-pos e) (v .1) in
-    let r : min (m * up e / down e) (2 ^ 63) ≡ k = omega arith in
-    ap (λ (n : ℕ). negℤ (pos n)) r ∙ ap (λ (t : Bool). signed t k) (v .0)
-cut (fin false m e) s k h v =
-    let q = quotient (m * up e) k (down e) (down-pos e) (v .1) in
-    let r : min (m * up e / down e) (2 ^ 63 - 1) ≡ k = omega arith in
-    ap pos r ∙ ap (λ (t : Bool). signed t k) (v .0)
 
 module _ {x : Float} {z : ℤ} (w : Whole x z) (h : natAbs z ≤ distanceLimit) where
   pub cut-whole : truncated x ≡ z

@@ -3,12 +3,12 @@
 use mathlib.Core.Path.{_≡_, refl, sym, ap, subst, _∙_}
 use mathlib.Core.Logic.{inl, inr}
 use mathlib.Core.Bool.{Bool, true, false, not, _&&_}
-use mathlib.Core.List.{List, [], _∷_}
+use mathlib.Core.List.{List}
 use Prim.Native.Nat.{ℕ, zero, suc, _-_, _≤_, _<_}
 use native.Mathlib.Omega.{arith}
 use borrow.Author.Tests.{not-false}
 use lib.Dec.{T, lit<}
-use lib.ListN.{length, length-map, List·getD-map, take, getD, replicate}
+use lib.ListN.{length, length-map, List·getD-map, take, replicate}
 use lib.Seq.{length-take-le, getD-take}
 use lib.IntN.{ℤ, pos, natAbs, _*ℤ_}
 use lib.Signed.{leZ, _≤ℤ_}
@@ -17,7 +17,6 @@ use Rattle.number.specs.Limits.{flagPlace, boxLength, gridLimit, distanceLimit,
 use Rattle.number.specs.Answer.{Outcome, refused, result}
 use Rattle.number.specs.Every.{every}
 use Rattle.number.specs.Slice.{at}
-use Rattle.number.proofs.Tests.{both-hold}
 use Rattle.whole.specs.SegmentCall.{numberAt, viewLength, countOf, within, pointWithin, planeWithin}
 use Rattle.whole.proofs.Integer.{of-self as self, of-le, of-min, of-max}
 use Rattle.exact.specs.ExactPoint.{ExactPoint, InBox}
@@ -29,14 +28,9 @@ use Rattle.placed.specs.Placement.{WholeBox, movedℤ, smaller, larger, 
 use Rattle.placed.specs.BBoxCall.{countIn, viewNumbers, planesIn, boxNumbers, boxIn, onGrid, Decides, ByGrid, After, ExactBoxCall, OneAnswerAllowed}
 use Rattle.placed.specs.Steps.{placedBounds, BoxNumbers, Counted}
 use Rattle.placed.proofs.Truncation.{whole-small}
+use Rattle.placed.proofs.Loading.{each}
 
 -- ---- whole numbers of a record, by place
-
-pub each : {A : Type 0} (test : A → Bool) (s : List A) (i : ℕ) (d : A) → every test s ≡ true → i < length s → test (getD s i d) ≡ true
-unfolding every
-each test [] i d e h = absurd (omega (arith, h))
-each test (x ∷ xs) zero d e h = both-hold (test x) (every test xs) e .0
-each test (x ∷ xs) (suc i) d e h = each test xs i d (both-hold (test x) (every test xs) e .1) (omega (arith, h))
 
 pub number-of : (s : List Float) (i : ℕ) → numberAt (wholeNumbers s) i ≡ truncated (at s i)
 unfolding toSigned

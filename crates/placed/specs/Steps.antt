@@ -1,6 +1,5 @@
 -- What the private functions are given and answer. They serve the contracts of private functions; the verdict's definition does not speak of them. Definitions only.
 use mathlib.Core.Path.{_≡_}
-use mathlib.Core.Bool.{cond}
 use mathlib.Core.List.{List, [], _∷_}
 use Prim.Native.Nat.{ℕ, zero, suc, _+_, _*_, _≤_, _<_}
 use lib.ListN.{length}
@@ -10,10 +9,8 @@ use Rattle.number.specs.Limits.{flagPlace, gridLimit, distanceLimit, fewestPlan
 use Rattle.number.specs.Slice.{at}
 use Rattle.verdict.specs.View.{volumeLength}
 use Rattle.whole.specs.SegmentCall.{numberAt}
-use Rattle.placed.specs.declared.numbers.Whole.{Whole}
-use Rattle.placed.specs.declared.numbers.Whole.the-variants.{Number, Other}
 use Rattle.placed.specs.declared.placement.Vec3.{Vec3}
-use Rattle.placed.specs.Numbers.{truncated, isWholeNumber}
+use Rattle.placed.specs.Numbers.{truncated}
 use Rattle.placed.specs.Placement.{WholeBox, placedLeast, placedGreatest}
 use Rattle.placed.specs.BBoxCall.{countIn}
 
@@ -32,10 +29,6 @@ pub record Sized (b : ℕ) (v : Vec3) : Type 0 where
   pub x : natAbs (v .x) ≤ b
   pub y : natAbs (v .y) ≤ b
   pub z : natAbs (v .z) ≤ b
-
--- the whole number that a float is
-abbrev pub wholeOf : Float → Whole
-wholeOf x = cond (isWholeNumber x) (Number (truncated x)) Other
 
 -- the least corner of the placed box, then the greatest
 abbrev pub placedBounds : WholeBox → List ℤ

@@ -3,45 +3,44 @@ ghost use mathlib.Core.Path.{_≡_};
 ghost use mathlib.Core.Bool.{true};
 ghost use Prim.Native.Nat.{_≤_};
 ghost use lib.ListN.{length, take};
-ghost use Rattle.number.specs.Limits.{distanceLimit};
-ghost use Rattle.whole.specs.SegmentCall.{within};
-ghost use Rattle.placed.specs.Numbers.{areWholeNumbers, wholeNumbers};
-ghost use Rattle.placed.specs.Steps.{wholeOf};
+ghost use Rattle.placed.specs.Numbers.{truncated, isWholeNumber, areWholeNumbers, wholeNumbers};
 
-// The largest number of the grid, in size: a plane's distance.
-const LARGEST: i64 = 16_777_216;
+// Halfway from 2^52 to 2^53, where the floats are the whole numbers: what is added to it comes out whole, and is the same after the subtraction where it was.
+const HALFWAY: f64 = 6755399441055744.0;
 
-// A whole number, or that a float is another one.
-pub enum Whole {
-    Number(i32),
-    Other,
+// Away from it by the largest number of the grid, a plane's distance.
+const LEAST: f64 = 6755399424278528.0;
+
+const GREATEST: f64 = 6755399457832960.0;
+
+// Whether a float is a whole number no larger than that.
+fn is_whole(x: f64) -> bool
+    ensures { λ r. ⌜ r ≡ isWholeNumber x ⌝ }
+{
+    let sum = x + HALFWAY;
+    (LEAST <= sum) & (sum <= GREATEST) & (x == sum - HALFWAY)
 }
 
-// Whether a number is no larger than that.
-fn within(z: i64) -> bool
-    ensures { λ r. ⌜ r ≡ within distanceLimit z ⌝ }
+// The whole number that a float is; of a zero of either sign 0, since the difference is then a 0 that is not negative.
+fn whole_of(x: f64) -> i32
+    requires { ⌜ isWholeNumber x ≡ true ⌝ }
+    ensures { λ r. ⌜ r ≡ truncated x ⌝ }
 {
-    (-LARGEST <= z) & (z <= LARGEST)
+    (x + HALFWAY - HALFWAY) as i32
 }
 
-// The whole number that a float is; of a zero of either sign 0.
-fn whole_of(x: f64) -> Whole
-    ensures { λ r. ⌜ r ≡ wholeOf x ⌝ }
+// Whether so many numbers in front of a slice are whole. It looks at all, as `all_finite` does.
+fn are_whole(s: &[f64], n: usize) -> bool
+    requires { ⌜ n ≤ length (now s) ⌝ }
+    ensures { λ r. ⌜ r ≡ areWholeNumbers (take n (now (s .entry))) ⌝ }
 {
-    if !(-9223372036854775808.0 <= x) {
-        return Whole::Other;
+    let mut all = true;
+    let mut i: usize = 0;
+    while i < n {
+        all = all & is_whole(s[i]);
+        i += 1;
     }
-    if !(x < 9223372036854775808.0) {
-        return Whole::Other;
-    }
-    let z = std::num::truncating_f64_to_i64(x);
-    if !within(z) {
-        return Whole::Other;
-    }
-    if x != z as f64 {
-        return Whole::Other;
-    }
-    Whole::Number(z as i32)
+    all
 }
 
 // Whether as many numbers in front of a slice as another has room for are whole; and these, where they are.
@@ -50,16 +49,12 @@ pub(crate) fn load(from: &[f64], out: &mut [i32]) -> bool
     ensures { λ r. ⌜ (r ≡ areWholeNumbers (take (length (now (out .entry))) (now (from .entry))))
         × (r ≡ true → now (out .exit) ≡ wholeNumbers (take (length (now (out .entry))) (now (from .entry)))) ⌝ }
 {
+    if !are_whole(from, out.len()) {
+        return false;
+    }
     let mut i: usize = 0;
     while i < out.len() {
-        match whole_of(from[i]) {
-            Whole::Number(z) => {
-                out[i] = z;
-            }
-            Whole::Other => {
-                return false;
-            }
-        }
+        out[i] = whole_of(from[i]);
         i += 1;
     }
     true
