@@ -1,19 +1,17 @@
--- The test for a whole number of the grid means that a float is one: what it is cut to is the number that it is. The idea: a float that equals a whole number is it, and
--- the digits of a whole number divided by its power of two leave its size. Assumes nothing.
-use mathlib.Core.Path.{_≡_, refl, sym, ap, subst, _∙_}
+-- The test for a whole number of the grid means that a float is one: what it is cut to is the number that it is. The idea: a float that equals a whole number is it.
+-- Assumes nothing.
+use mathlib.Core.Path.{_≡_, refl, sym, subst, _∙_}
 use mathlib.Core.Bool.{Bool, true, false, cond, _&&_}
-use Prim.Native.Nat.{ℕ, suc, _-_, _*_, _/_, _^_, min, _≤_, _<_}
-use native.Mathlib.Nat.{le-div-iff-mul-le, div-lt-iff-lt-mul, le-trans}
+use Prim.Native.Nat.{ℕ, _*_, _≤_}
+use native.Mathlib.Nat.{le-trans}
 use native.Mathlib.Omega.{arith}
 use borrow.Author.Tests.{leb-true, le-leb}
 use lib.Dec.{T, lit≤}
-use lib.IntN.{ℤ, pos, negℤ, natAbs}
-use lib.Ieee.{Float, nan, inf, fin, binary64, up, down, eq, ofInt, toSigned}
+use lib.IntN.{ℤ, natAbs}
+use lib.Ieee.{Float, nan, inf, fin, binary64, up, down, eq, ofInt}
 use lib.Ieee.Bits.{is-true}
 use lib.Ieee.Fits.{down-pos}
-use lib.Ieee.Exact.{HasValue}
 use Rattle.number.specs.Limits.{distanceLimit}
-use Rattle.number.specs.Grid.{signed}
 use Rattle.number.proofs.Tests.{both-hold}
 use Rattle.whole.specs.SegmentCall.{within}
 use Rattle.whole.proofs.Integer.{hi, lo, of-self, of-pos, of-neg, of-times, of-eq}
