@@ -3,7 +3,10 @@ pub mod Reached
 pub mod SpanByCuts
 pub mod Furthest
 pub mod Without
+pub mod PlaneRead
 pub mod BlockingByCuts
+pub mod PlanesBehind
 pub mod Calls
 pub mod Meaning
+pub mod PlanesMeaning
 pub mod Worked

@@ -10,12 +10,12 @@ use Rattle.verdict.specs.View.{tabulate}
 use Rattle.blocking.specs.Blocking.{without}
 
 -- the first of the numbers below a limit, and those behind it
-first-below : (n : ℕ) (t : ℕ → Bool) → everyBelow (suc n) t ≡ (t 0 && everyBelow n (λ k. t (suc k)))
+pub first-below : (n : ℕ) (t : ℕ → Bool) → everyBelow (suc n) t ≡ (t 0 && everyBelow n (λ k. t (suc k)))
 unfolding everyBelow
 first-below zero t = sym (and-true (t 0))
 first-below (suc n) t = ap (λ (b : Bool). b && t (suc n)) (first-below n t) ∙ and-assoc (t 0) (everyBelow n (λ k. t (suc k))) (t (suc n))
 
-next-same : (k j : ℕ) → eqb k j ≡ eqb (suc k) (suc j)
+pub next-same : (k j : ℕ) → eqb k j ≡ eqb (suc k) (suc j)
 next-same k j = go (eqb k j) refl
   where
     go : (b : Bool) → eqb k j ≡ b → b ≡ eqb (suc k) (suc j)

@@ -39,7 +39,7 @@ planes-without none (suc j) = none
 planes-without (more h hs) zero = hs
 planes-without (more h hs) (suc j) = more h (planes-without hs j)
 
-one-by-one : {Kind : WholePlane → Type 0} {ps : List Plane} {Ps : List WholePlane} → ArePlanes Kind ps Ps → length ps ≡ length Ps
+pub one-by-one : {Kind : WholePlane → Type 0} {ps : List Plane} {Ps : List WholePlane} → ArePlanes Kind ps Ps → length ps ≡ length Ps
 one-by-one none = refl
 one-by-one (more h hs) = ap suc (one-by-one hs)
 

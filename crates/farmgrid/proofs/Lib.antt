@@ -39,6 +39,7 @@ pub mod Answers
 pub mod Verdicts
 pub mod MorePlanes
 pub mod BlockingPlane
+pub mod PlanesBehind
 -- the whole-number engine, and both engines
 pub mod WholeSegment
 pub mod WholeRecords

@@ -7,6 +7,7 @@ pub mod Verdicts
 pub mod ClipSpace
 pub mod Screens
 pub mod BlockingPlane
+pub mod PlanesBehind
 pub mod WholeNumbers
 pub mod ExactBoxes
 pub mod ExactByRecords

@@ -163,7 +163,7 @@ pub(crate) fn intersects_segment(view: &[f64], count: u32, a: Vec3d, b: Vec3d) -
 }
 
 // The matrix that carries planes into the space of a box; a degenerate box is taken as if its matrix were the identity.
-fn into_space(b: BBox3d) -> Mat4d
+pub fn into_space(b: BBox3d) -> Mat4d
     ensures { λ r. ⌜ r ≡ intoSpaceOf b ⌝ }
 {
     if b.is_degenerate() {

@@ -14,5 +14,6 @@ pub mod ray_calls;
 mod reach;
 mod record;
 pub mod rows;
+pub mod space;
 pub mod triangle;
 pub mod view;

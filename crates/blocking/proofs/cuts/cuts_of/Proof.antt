@@ -1,28 +1,17 @@
 -- `cuts_of` meets its contract: the cuts are those of the planes passed. Assumes nothing.
 use mathlib.Core.Path.{_≡_, sym, ap, _∙_}
-use mathlib.Core.List.{List}
 use Prim.Native.Nat.{ℕ, _+_, _-_, _≤_}
 use native.Mathlib.Numerals.{add-one}
 use native.Mathlib.Omega.{arith}
 use borrow.Author.Needs.{needs}
-use lib.ListN.{length, take, drop, length-drop}
-use lib.Seq.{take-all, getD-drop}
-use lib.Ieee.{Float, nan}
-use Rattle.matrix.specs.Vec.{vec3}
 use Rattle.matrix.specs.declared.vec.Vec3d.{Vec3d}
 use Rattle.verdict.specs.declared.plane.Plane.{Plane}
-use Rattle.verdict.specs.Plane.{plane, planeOf}
-use Rattle.verdict.specs.View.{planeStart, planeAt}
+use Rattle.verdict.specs.View.{planeAt}
 use Rattle.blocking.specs.declared.cuts.Cuts.{Cuts}
 use Rattle.blocking.specs.Steps.{cutBelow, withPlane, cutsBelow}
+use Rattle.blocking.proofs.PlaneRead.{read}
 use Rattle.blocking.proofs.cuts.cuts_of.Statement.{statement}
 use Rattle.blocking.proofs.cuts.cuts_of.Tie as tie
-
--- a plane that is read from where it begins
-read : (s : List Float) (i k : ℕ) (p : Plane) → k ≡ planeStart i → p ≡ planeOf (take (length s - k) (drop k s)) → p ≡ planeAt s i
-read s i k p e f =
-    f ∙ ap planeOf (take-all (length s - k) (drop k s) (omega (arith, length-drop k s))) ∙ ap (λ (n : ℕ). planeOf (drop n s)) e
-    ∙ (λ t. plane (vec3 (λ j. getD-drop (planeStart i) s j nan t)) (getD-drop (planeStart i) s 3 nan t))
 
 one-more : (f : ℕ → Plane) (a b : Vec3d) (i : ℕ) (c d : Cuts) (p : Plane) → c ≡ cutsBelow f a b i → p ≡ f i → d ≡ withPlane c p a b i → d ≡ cutsBelow f a b (i + 1)
 unfolding withPlane cutBelow

@@ -1,0 +1,152 @@
+-- What the planes that a box is behind say of its verdict (`specs/PlanesMeaning.antt`): by the bits of the places, and by the verdict of each plane alone. Assumes nothing.
+use mathlib.Core.Path.{_≡_, refl, sym, ap, _∙_, subst}
+use mathlib.Core.Bool.{Bool, true, false, not}
+use mathlib.Core.Logic.{_↔_}
+use mathlib.Core.List.{List}
+use Prim.Native.Nat.{ℕ, _/_, _%_, _^_, _≤_, _<_}
+use native.Mathlib.Nat.{div-eq-of-lt}
+use native.Mathlib.Omega.{arith}
+use borrow.Author.Tests.{eqb-true, eqb-false, ltb-true, ltb-false}
+use lib.Dec.{T, eqb, ltb}
+use lib.ListN.{length, take, drop}
+use lib.Pow.{pow-mono}
+use lib.Ieee.{Float}
+use Rattle.number.specs.Answer.{Outcome, refused, result}
+use Rattle.matrix.specs.Range.{isEmpty}
+use Rattle.verdict.specs.declared.plane.Plane.{Plane}
+use Rattle.verdict.specs.declared.bbox.BBox3d.{BBox3d}
+use Rattle.verdict.specs.BBox.{boxOf}
+use Rattle.verdict.specs.View.{planeAt, planesHeld, planesOf}
+use Rattle.verdict.specs.Frustum.{boxInView}
+use Rattle.verdict.specs.FrustumCalls.{intersectsBoxCall}
+use Rattle.verdict.proofs.PlanesHeld.{held}
+use Rattle.verdict.proofs.ViewLists.{as-many}
+use Rattle.blocking.specs.Blocking.{without}
+use Rattle.blocking.specs.PlanesBehind.{isBehind, placesBehind, blockingPlanes}
+use Rattle.blocking.specs.Calls.{blockingPlanesCall}
+use Rattle.blocking.specs.PlanesMeaning.{isSet, BitsMean, EmptyBehindAll, NoBitMeans, RefusedAlike, OnlyBitMeans}
+use Rattle.blocking.proofs.PlanesBehind.{bits, below, bit-is, no-bit, none-set, all-bits, Only, only-bit, only-set, empty-unseen, each-seen, seen-each, seen-without, others-seen}
+use Rattle.blocking.proofs.Calls.{Answered, bitsOf, box-by, planes-refused, planes-answered}
+
+unset : (x : Bool) → not x ≡ false → x ≡ true
+unset true e = refl
+unset false e = sym e
+
+is-not : (x : Bool) → x ≡ true → not x ≡ false
+is-not x e = ap not e
+
+is-set : (x : Bool) → not x ≡ true → x ≡ false
+is-set true e = sym e
+is-set false e = refl
+
+module _ (ps : List Plane) (b : BBox3d) where
+  are-bits : blockingPlanes ps b ≡ bits (isBehind ps b) (length ps)
+  unfolding blockingPlanes placesBehind
+  are-bits = refl
+
+  abbrev t : ℕ → Bool
+  t = isBehind ps b
+
+  abbrev n : ℕ
+  n = length ps
+
+  -- past the last plane no bit is set
+  past-last : (i : ℕ) → (i < n → ⊥) → T (isSet (bits t n) i) → ⊥
+  past-last i l s =
+      let h : bits t n < 2 ^ i = let k : length ps ≤ i = omega (arith, l) in omega (arith, below t n, pow-mono k) in
+      subst T (ap (λ (m : ℕ). eqb (m % 2) 1) (div-eq-of-lt h)) s
+
+  bit-means : (i : ℕ) (z : Bool) → ltb i n ≡ z → T (isSet (bits t n) i) ↔ ((i < n) × T (t i))
+  bit-means i true e =
+      let l = ltb-true i n e in
+      (λ s. (l, subst T (bit-is t i n l) s), λ s. subst T (sym (bit-is t i n l)) (s .1))
+  bit-means i false e =
+      let l = ltb-false i n e in
+      (λ s. absurd (past-last i (λ k. omega (arith, l, k)) s), λ s. absurd (omega (arith, l, s .0)))
+
+  -- no bit is set exactly where the box is in view
+  no-bit-is : 0 < n → boxInView ps b ≡ true → blockingPlanes ps b ≡ 0
+  no-bit-is h s = are-bits ∙ no-bit t n (λ i l. is-not _ (seen-each b ps s i l))
+
+  no-bit-seen : 0 < n → blockingPlanes ps b ≡ 0 → boxInView ps b ≡ true
+  no-bit-seen h e = each-seen b ps h (λ i l. unset _ (none-set t n (sym are-bits ∙ e) i l))
+
+pub bits-mean : BitsMean
+bits-mean ps b i = subst (λ (m : ℕ). T (isSet m i) ↔ ((i < length ps) × T (isBehind ps b i))) (sym (are-bits ps b)) (bit-means ps b i (ltb i (length ps)) refl)
+
+pub empty-behind-all : EmptyBehindAll
+empty-behind-all ps b e = are-bits ps b ∙ all-bits (isBehind ps b) (length ps) (λ i l. ap not (empty-unseen b ps (take 1 (drop i ps)) e))
+
+-- ---- the only bit
+
+module _ (ps : List Plane) (b : BBox3d) (i : ℕ) (two : 1 < length ps) (h : i < length ps) (hidden : boxInView ps b ≡ false) where
+  -- without plane i it is in view, so that it is behind none of the others, and behind plane i, since it is not in view by all
+  only : boxInView (without i ps) b ≡ true → Only (isBehind ps b) i (length ps)
+  only s = record {
+    passes = passes (boxInView (take 1 (drop i ps)) b) refl;
+    others = λ j l d. is-not _ (seen-without b ps i s j l d);
+  }
+    where
+      each : boxInView (take 1 (drop i ps)) b ≡ true → (j : ℕ) → j < length ps → (z : Bool) → eqb j i ≡ z → boxInView (take 1 (drop j ps)) b ≡ true
+      each e j l true q = ap (λ (k : ℕ). boxInView (take 1 (drop k ps)) b) (eqb-true j i q) ∙ e
+      each e j l false q = seen-without b ps i s j l (eqb-false j i q)
+
+      passes : (z : Bool) → boxInView (take 1 (drop i ps)) b ≡ z → not (boxInView (take 1 (drop i ps)) b) ≡ true
+      passes false e = ap not e
+      passes true e = absurd (subst T (sym (each-seen b ps (omega arith) (λ j l. each e j l (eqb j i) refl)) ∙ hidden) tt)
+
+  -- of two planes one is another than that at i
+  seen : Only (isBehind ps b) i (length ps) → boxInView (without i ps) b ≡ true
+  seen o = go (eqb i 0) refl
+    where
+      others : (j : ℕ) → j < length ps → (j ≡ i → ⊥) → boxInView (take 1 (drop j ps)) b ≡ true
+      others j l d = unset _ (o .others j l d)
+
+      go : (z : Bool) → eqb i 0 ≡ z → boxInView (without i ps) b ≡ true
+      go true q = others-seen b ps i 1 two (λ e. omega (arith, e, eqb-true i 0 q)) others
+      go false q = others-seen b ps i 0 (omega arith) (λ e. eqb-false i 0 q (sym e)) others
+
+pub only-bit-means : OnlyBitMeans
+only-bit-means ps b i two h u = (
+  λ s. are-bits ps b ∙ only-bit (isBehind ps b) i (length ps) h (only ps b i two h u s),
+  λ e. seen ps b i two h u (only-set (isBehind ps b) i (length ps) h (sym (are-bits ps b) ∙ e)),
+)
+
+-- ---- the calls
+
+module _ (v b : List Float) where
+  some : (y : Bool) (r : Answered (planesHeld v) (λ n. boxInView (planesOf v n) (boxOf b)) y) → 0 < length (planesOf v (r .by))
+  some y r = omega (arith, held _ _ (r .holds) .fewest, as-many (planeAt v) (r .by))
+
+  -- in view, no bit is set
+  pub seen-no-bit : result true ≡ intersectsBoxCall v b → result 0 ≡ blockingPlanesCall v b
+  seen-no-bit e =
+      let r = box-by v b true (sym e) in
+      planes-answered v b true e (r .by) _ (r .holds) (ap result (sym (no-bit-is (planesOf v (r .by)) (boxOf b) (some true r) (r .is))))
+
+  same-count : (m n : ℕ) → _≡_ {A = Outcome ℕ} (result m) (result n) → m ≡ n
+  same-count m n e = cc
+
+  same-refusal : (j k : ℕ) → _≡_ {A = Outcome ℕ} (refused j) (refused k) → j ≡ k
+  same-refusal j k e = cc
+
+  not-both : (k m : ℕ) → _≡_ {A = Outcome ℕ} (refused k) (result m) → ⊥
+  not-both k m e = let z : _≡_ {A = ℕ} 0 1 = cc in omega (arith, z)
+
+  no-bit-by : (o : Outcome Bool) → intersectsBoxCall v b ≡ o → blockingPlanesCall v b ≡ result 0 → o ≡ result true
+  no-bit-by (refused k) e f = absurd (not-both k 0 (planes-refused v b k (sym e) ∙ f))
+  no-bit-by (result y) e f =
+      let r = box-by v b y e in
+      ap result (sym (r .is) ∙ no-bit-seen (planesOf v (r .by)) (boxOf b) (some y r) (same-count _ 0 (planes-answered v b y (sym e) (r .by) _ (r .holds) refl ∙ f)))
+
+  refused-by : (k : ℕ) (o : Outcome Bool) → intersectsBoxCall v b ≡ o → blockingPlanesCall v b ≡ refused k → o ≡ refused k
+  refused-by k (refused j) e f = ap refused (same-refusal j k (planes-refused v b j (sym e) ∙ f))
+  refused-by k (result y) e f =
+      let r = box-by v b y e in
+      absurd (not-both k _ (sym (planes-answered v b y (sym e) (r .by) _ (r .holds) refl ∙ f)))
+
+pub no-bit-means : NoBitMeans
+no-bit-means v b = (no-bit-by v b (intersectsBoxCall v b) refl, λ e. sym (seen-no-bit v b (sym e)))
+
+pub refused-alike : RefusedAlike
+refused-alike v b k = (refused-by v b k (intersectsBoxCall v b) refl, λ e. sym (planes-refused v b k (sym e)))

@@ -1,0 +1,30 @@
+-- The planes that a box is wholly behind, with a bit for each place: "bit i set: by the box verdict's own test the box does not reach plane i; an empty range reaches
+-- none, and all n bits are set". Definitions only.
+-- That test rounds: in the space of the box it makes a plane's normal unit length. By axis planes on the farm grid nothing is lost (farmgrid/specs/PlanesBehind). By oblique
+-- planes a bit is not the exact answer: of the plane -1,-1,-1;-3 the box 0,0,3 to 1,1,4 has its corner 0,0,3, and yet gets the bit.
+use Prim.Native.Nat.{ℕ, _+_, _^_}
+use mathlib.Core.Bool.{Bool, not}
+use mathlib.Core.List.{List, [], _∷_}
+use lib.ListN.{length, take, drop}
+use Rattle.number.specs.Places.{placesBelow}
+use Rattle.verdict.specs.declared.plane.Plane.{Plane}
+use Rattle.verdict.specs.declared.bbox.BBox3d.{BBox3d}
+use Rattle.verdict.specs.Frustum.{boxInView}
+
+-- by the plane at i alone the box is not in view
+abbrev pub isBehind : List Plane → BBox3d → ℕ → Bool
+isBehind ps b i = not (boxInView (take 1 (drop i ps)) b)
+
+-- the places of these planes, rising
+unfoldable pub placesBehind : List Plane → BBox3d → List ℕ
+unfolding placesBelow
+placesBehind ps b = placesBelow (length ps) (isBehind ps b)
+
+-- a number with the bits at some places, the lowest at 0
+unfoldable pub bitsAt : List ℕ → ℕ
+bitsAt [] = 0
+bitsAt (i ∷ is) = 2 ^ i + bitsAt is
+
+unfoldable pub blockingPlanes : List Plane → BBox3d → ℕ
+unfolding bitsAt placesBehind
+blockingPlanes ps b = bitsAt (placesBehind ps b)

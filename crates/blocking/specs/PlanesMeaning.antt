@@ -1,0 +1,45 @@
+-- What the planes that a box is wholly behind say of its verdict, for planes and boxes of any numbers. Statements; proofs/PlanesMeaning proves them. `T b` says that the test
+-- b holds, and `A ↔ B` that A holds exactly where B does.
+use Prim.Native.Nat.{ℕ, _-_, _/_, _%_, _^_, _<_}
+use mathlib.Core.Path.{_≡_}
+use mathlib.Core.Logic.{_↔_}
+use mathlib.Core.Bool.{Bool, true, false}
+use mathlib.Core.List.{List}
+use lib.Dec.{T, eqb}
+use lib.ListN.{length}
+use lib.Ieee.{Float}
+use Rattle.number.specs.Answer.{refused, result}
+use Rattle.matrix.specs.Range.{isEmpty}
+use Rattle.verdict.specs.declared.plane.Plane.{Plane}
+use Rattle.verdict.specs.declared.bbox.BBox3d.{BBox3d}
+use Rattle.verdict.specs.Frustum.{boxInView}
+use Rattle.verdict.specs.FrustumCalls.{intersectsBoxCall}
+use Rattle.blocking.specs.Blocking.{without}
+use Rattle.blocking.specs.PlanesBehind.{isBehind, blockingPlanes}
+use Rattle.blocking.specs.Calls.{blockingPlanesCall}
+
+-- the bit i of a number is set
+abbrev pub isSet : ℕ → ℕ → Bool
+isSet m i = eqb (m / 2 ^ i % 2) 1
+
+-- Bit i is set exactly where the box is behind plane i, and no bit is set past the last plane.
+abbrev pub BitsMean : Type 0
+BitsMean = (ps : List Plane) (b : BBox3d) (i : ℕ) → T (isSet (blockingPlanes ps b) i) ↔ ((i < length ps) × T (isBehind ps b i))
+
+-- "an empty range reaches none, and all n bits are set"
+abbrev pub EmptyBehindAll : Type 0
+EmptyBehindAll = (ps : List Plane) (b : BBox3d) → isEmpty (b .range) ≡ true → blockingPlanes ps b ≡ 2 ^ length ps - 1
+
+-- "0 exactly where gf_intersects_bbox answers yes"
+abbrev pub NoBitMeans : Type 0
+NoBitMeans = (v b : List Float) → (blockingPlanesCall v b ≡ result 0) ↔ (intersectsBoxCall v b ≡ result true)
+
+-- It has no refusal of its own.
+abbrev pub RefusedAlike : Type 0
+RefusedAlike = (v b : List Float) (k : ℕ) → (blockingPlanesCall v b ≡ refused k) ↔ (intersectsBoxCall v b ≡ refused k)
+
+-- A box that is answered no by two planes or more would be answered yes without plane i exactly where it is behind that plane alone.
+abbrev pub OnlyBitMeans : Type 0
+OnlyBitMeans =
+    (ps : List Plane) (b : BBox3d) (i : ℕ) → 1 < length ps → i < length ps → boxInView ps b ≡ false
+    → (boxInView (without i ps) b ≡ true) ↔ (blockingPlanes ps b ≡ 2 ^ i)

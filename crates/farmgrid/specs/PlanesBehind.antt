@@ -1,0 +1,31 @@
+-- The planes that a block is behind, on the farm grid: by axis planes each bit is the exact answer. By oblique planes it is not, since the test rounds there. Definitions and
+-- statements only. `T b` says that the test b holds, and `A ↔ B` that A holds exactly where B does.
+use mathlib.Core.Path.{_≡_}
+use mathlib.Core.Logic.{_↔_}
+use mathlib.Core.List.{List, _∷_, _++_}
+use Prim.Native.Nat.{ℕ}
+use lib.Dec.{T}
+use lib.ListN.{length}
+use lib.Ieee.{Float}
+use Rattle.number.specs.Answer.{Outcome, result}
+use Rattle.blocking.specs.Calls.{blockingPlanesCall}
+use Rattle.blocking.specs.PlanesMeaning.{isSet}
+use Rattle.whole.specs.Plane.{WholePlane}
+use Rattle.exact.specs.ExactPoint.{ExactPoint, Satisfies, InBox}
+use Rattle.placed.specs.Placement.{WholeBox}
+use Rattle.farmgrid.specs.FarmGrid.{AxisPlane, lowOf, highOf}
+use Rattle.farmgrid.specs.Records.{ViewRecord, BoxRecord}
+
+-- no exact point of the placed box satisfies the plane
+abbrev pub AllFail : WholePlane → WholeBox → Type 0
+AllFail P B = (X : ExactPoint) → InBox (lowOf B) (highOf B) X → Satisfies P X → ⊥
+
+-- a call was not refused, and its bit i is set exactly where every exact point of the placed box fails the plane at i
+pub record BehindAnswer (answer : Outcome ℕ) (Ps : List WholePlane) (B : WholeBox) : Type 0 where
+  pub bits : ℕ
+  pub answered : answer ≡ result bits
+  pub exact : (Qs : List WholePlane) (P : WholePlane) (Rs : List WholePlane) → Ps ≡ Qs ++ P ∷ Rs → T (isSet bits (length Qs)) ↔ AllFail P B
+
+-- The planes need not share a point.
+abbrev pub BehindExact : Type 0
+BehindExact = (v b : List Float) (Ps : List WholePlane) (B : WholeBox) → ViewRecord AxisPlane v Ps → BoxRecord b B → BehindAnswer (blockingPlanesCall v b) Ps B
