@@ -16,6 +16,7 @@ use Rattle.number.specs.Slots.{unused}
 use Rattle.number.proofs.Filled.{length-slots}
 use Rattle.farm.specs.FarmFile.{volumeThere, countNumber, sized, allFlagged, numbersFinite, inView, checked, farmFile, slotCount, slotOf, slots, Listing, listing, listed, farmFileCall}
 use Rattle.farm.specs.Lines.{linesFrom, refusedLine, linesOf, isYes}
+use Rattle.farm.specs.Steps.{Ready}
 use Rattle.farm.proofs.SectionsLeft.{as-many}
 use Rattle.farm.proofs.Placed.{at-most}
 
@@ -25,16 +26,24 @@ abbrev chain : Bool → Bool → Bool → Bool → Bool → Bool → Bool → Li
 chain f w v c s g n vs =
     unless f (refused 1) (unless w (refused 9) (unless v (refused 10) (unless c (refused 12) (unless s (refused 10) (unless g (refused 3) (unless n (refused 13) (result vs)))))))
 
--- what is answered passed every check, of the directory and of the numbers among them
-all-passed : (f w v c s g n : Bool) (ws vs : List Bool) → chain f w v c s g n ws ≡ result vs → (w ≡ true) × (n ≡ true) × (ws ≡ vs)
-all-passed true true true true true true true ws vs e = (refl, refl, cc)
-all-passed true true true true true true false ws vs e = (refl, cc, cc)
-all-passed true true true true true false n ws vs e = (refl, cc, cc)
-all-passed true true true true false g n ws vs e = (refl, cc, cc)
-all-passed true true true false s g n ws vs e = (refl, cc, cc)
-all-passed true true false c s g n ws vs e = (refl, cc, cc)
-all-passed true false v c s g n ws vs e = (cc, cc, cc)
-all-passed false w v c s g n ws vs e = (cc, cc, cc)
+-- what is answered passed every check
+record Passed (w c s g n : Bool) (ws vs : List Bool) : Type 0 where
+  formed : w ≡ true
+  count : c ≡ true
+  sizes : s ≡ true
+  flags : g ≡ true
+  finite : n ≡ true
+  found : ws ≡ vs
+
+all-passed : (f w v c s g n : Bool) (ws vs : List Bool) → chain f w v c s g n ws ≡ result vs → Passed w c s g n ws vs
+all-passed true true true true true true true ws vs e = record { formed = refl; count = refl; sizes = refl; flags = refl; finite = refl; found = cc }
+all-passed true true true true true true false ws vs e = let z : _≡_ {A = ℕ} 0 1 = cc in absurd (omega arith)
+all-passed true true true true true false n ws vs e = let z : _≡_ {A = ℕ} 0 1 = cc in absurd (omega arith)
+all-passed true true true true false g n ws vs e = let z : _≡_ {A = ℕ} 0 1 = cc in absurd (omega arith)
+all-passed true true true false s g n ws vs e = let z : _≡_ {A = ℕ} 0 1 = cc in absurd (omega arith)
+all-passed true true false c s g n ws vs e = let z : _≡_ {A = ℕ} 0 1 = cc in absurd (omega arith)
+all-passed true false v c s g n ws vs e = let z : _≡_ {A = ℕ} 0 1 = cc in absurd (omega arith)
+all-passed false w v c s g n ws vs e = let z : _≡_ {A = ℕ} 0 1 = cc in absurd (omega arith)
 
 small : (f w v c s g n : Bool) (ws : List Bool) (k : ℕ) → chain f w v c s g n ws ≡ refused k → k < 100
 small true true true true true true true ws k e = let z : _≡_ {A = ℕ} 0 1 = cc in omega arith
@@ -54,20 +63,26 @@ module _ (b : List ℕ) where
   unfolding farmFile checked
   is = refl
 
-  answered : (vs : List Bool) → farmFile b ≡ result vs → (wellFormed b ≡ true) × (numbersFinite b ≡ true) × (found ≡ vs)
+  answered : (vs : List Bool) → farmFile b ≡ result vs → Passed (wellFormed b) (isCount (countNumber b)) (sized b) (allFlagged b) (numbersFinite b) found vs
   answered vs e =
       all-passed (leb (length b) largestFile) (wellFormed b) (volumeThere b) (isCount (countNumber b)) (sized b) (allFlagged b) (numbersFinite b) found vs (is ∙ e)
 
+  pub ready : (vs : List Bool) → farmFile b ≡ result vs → Ready b
+  ready vs e = let p = answered vs e in record { formed = p .formed; count = p .count; sizes = p .sizes; flags = p .flags; finite = p .finite }
+
+  pub verdicts-are : (vs : List Bool) → farmFile b ≡ result vs → vs ≡ map (inView b) (boxSections b)
+  verdicts-are vs e = sym (answered vs e .found)
+
   pub well-formed : (vs : List Bool) → farmFile b ≡ result vs → wellFormed b ≡ true
-  well-formed vs e = answered vs e .0
+  well-formed vs e = answered vs e .formed
 
   pub finite-numbers : (vs : List Bool) → farmFile b ≡ result vs → numbersFinite b ≡ true
-  finite-numbers vs e = answered vs e .1
+  finite-numbers vs e = answered vs e .finite
 
   few : (vs : List Bool) → farmFile b ≡ result vs → length vs ≤ slotCount
   few vs e =
       let n = length-map (boxSections b) (inView b) ∙ as-many b 1 (sectionCount b - 1) in
-      omega (arith, sym (ap length (answered vs e .2)) ∙ n, at-most b (well-formed vs e))
+      omega (arith, sym (ap length (answered vs e .found)) ∙ n, at-most b (well-formed vs e))
 
   small-number : (k : ℕ) → farmFile b ≡ refused k → k < 100
   small-number k e =
@@ -111,7 +126,31 @@ shown b (result vs) out n l a e =
       lines = ap (λ (k : ℕ). linesFrom 1 (map isYes (take k l))) m ∙ ap (λ (t : List ℕ). linesFrom 1 (map isYes (take (length vs) t))) s ∙ ap (linesFrom 1) (read-back vs);
     }
 
+-- a call that counts its boxes has an answer
+pub record Told (b : List ℕ) (n : ℕ) : Type 0 where
+  pub verdicts : List Bool
+  pub answer : farmFile b ≡ result verdicts
+  pub many : n ≡ length verdicts
+  pub few : n ≤ slotCount
+
 module _ (b out : List ℕ) (q : length out ≡ slotCount) (l : List ℕ) where
+  pub boxes-told : (n : ℕ) → listing (result n) l ≡ farmFileCall b out → Told b n
+  boxes-told n e = by-case (farmFile b) refl (e ∙ by-answer b out q)
+    where
+      by-case : (o : Outcome (List Bool)) → farmFile b ≡ o → listing (result n) l ≡ listed o out → Told b n
+      by-case (refused j) a f = let g = ap (λ (x : Listing). x .boxes) f in let z : _≡_ {A = ℕ} 0 1 = cc in absurd (omega (arith, z))
+      by-case (result vs) a f =
+          let g = ap (λ (x : Listing). x .boxes) f in
+          let m : n ≡ length vs = cc in
+          record { verdicts = vs; answer = a; many = m; few = omega (arith, m, few b vs a) }
+
+  pub refusal-told : (k : ℕ) → listing (refused k) l ≡ farmFileCall b out → farmFile b ≡ refused k
+  refusal-told k e = by-case (farmFile b) refl (e ∙ by-answer b out q)
+    where
+      by-case : (o : Outcome (List Bool)) → farmFile b ≡ o → listing (refused k) l ≡ listed o out → farmFile b ≡ refused k
+      by-case (refused j) a f = let g = ap (λ (x : Listing). x .boxes) f in let z : j ≡ k = cc in a ∙ ap refused z
+      by-case (result vs) a f = let g = ap (λ (x : Listing). x .boxes) f in let z : _≡_ {A = ℕ} 0 1 = cc in absurd (omega (arith, z))
+
   pub boxes-shown : (n : ℕ) → listing (result n) l ≡ farmFileCall b out → Shown (farmFile b) n l
   boxes-shown n e = shown b (farmFile b) out n l refl (e ∙ by-answer b out q)
 

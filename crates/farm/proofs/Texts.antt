@@ -1,13 +1,14 @@
 -- Bytes put into a text one part behind the other; lines one behind the other. Assumes nothing.
-use mathlib.Core.Path.{_≡_, sym, ap, _∙_}
+use mathlib.Core.Path.{_≡_, refl, sym, ap, subst, _∙_}
 use mathlib.Core.Bool.{Bool, true, false, cond}
 use mathlib.Core.List.{List, [], _∷_, _++_, append-assoc, append-nil}
-use Prim.Native.Nat.{ℕ, suc, _+_, _-_, _*_, _/_, _%_, _≤_}
+use Prim.Native.Nat.{ℕ, suc, _+_, _-_, _*_, _/_, _%_, _≤_, _<_}
 use native.Mathlib.Omega.{arith}
-use lib.Dec.{ltb}
-use lib.ListN.{length, length-append, length-drop, take, drop, drop-of-length-le}
+use borrow.Author.Tests.{le-leb, lt-leb}
+use lib.Dec.{ltb, leb}
+use lib.ListN.{length, length-append, length-drop, take, drop, drop-of-length-le, take-append-drop}
 use lib.Seq.{length-take-le, take-at, take-all, take-length, drop-append-add, drop-drop}
-use Rattle.farm.specs.Lines.{decimal, yesOrNo, line, linesFrom, inserted}
+use Rattle.farm.specs.Lines.{decimal, yesOrNo, line, linesFrom, inserted, Puts}
 
 module _ (t : List ℕ) (at : ℕ) (h : at ≤ length t) (a b : List ℕ) where
   as-long : length (take at t ++ a) ≡ at + length a
@@ -41,11 +42,12 @@ in-front t s n e = take-at s (drop (0 + length s) t) n (sym e)
 
 pub short-decimal : (n : ℕ) → length (decimal n) ≤ 2
 unfolding decimal
-short-decimal n = by-digits (ltb n 10)
+short-decimal n = by-digits (ltb n 10) (ltb n 100)
   where
-    by-digits : (b : Bool) → length (cond b ((48 + n) ∷ []) ((48 + n / 10) ∷ (48 + n % 10) ∷ [])) ≤ 2
-    by-digits true = omega arith
-    by-digits false = omega arith
+    by-digits : (b c : Bool) → length (cond b ((48 + n) ∷ []) (cond c ((48 + n / 10) ∷ (48 + n % 10) ∷ []) [])) ≤ 2
+    by-digits true c = omega arith
+    by-digits false true = omega arith
+    by-digits false false = omega arith
 
 pub short-line : (k : ℕ) (v : Bool) → length (line k v) ≤ 7
 unfolding line
@@ -96,3 +98,41 @@ module _ (t : List ℕ) (at : ℕ) (a : List ℕ) (r : ℕ) (l : List ℕ) (p : 
 
   pub put-length : at + length a ≤ length t → length l ≡ length t
   put-length h = ap length (p .1) ∙ length-inserted t at a h
+
+module _ (t : List ℕ) (at : ℕ) (s : List ℕ) where
+  -- with room for the bytes they are put
+  pub has-room : (r : ℕ) (l : List ℕ) → at + length s ≤ length t → Puts t at s r l → Put t at s r l
+  has-room r l h p =
+      let e = le-leb _ _ h in
+      (p .0 ∙ ap (λ (b : Bool). cond b (at + length s) at) e, p .1 ∙ ap (λ (b : Bool). cond b (inserted t at s) t) e)
+
+  pub puts-room : (r : ℕ) (l : List ℕ) → at + length s ≤ length t → Put t at s r l → Puts t at s r l
+  puts-room r l h p =
+      let e = le-leb _ _ h in
+      (p .0 ∙ sym (ap (λ (b : Bool). cond b (at + length s) at) e), p .1 ∙ sym (ap (λ (b : Bool). cond b (inserted t at s) t) e))
+
+  -- without room nothing is
+  pub no-room : length t < at + length s → Puts t at s at t
+  no-room h = let e = lt-leb _ _ h in (sym (ap (λ (b : Bool). cond b (at + length s) at) e), sym (ap (λ (b : Bool). cond b (inserted t at s) t) e))
+
+  pub puts-meant : (u : List ℕ) (r : ℕ) (l : List ℕ) → s ≡ u → Puts t at s r l → Puts t at u r l
+  puts-meant u r l e p = subst (λ (x : List ℕ). Puts t at x r l) e p
+
+-- bytes behind those that were put, with room for both
+module _ (t : List ℕ) (at : ℕ) (a : List ℕ) (r : ℕ) (l : List ℕ) (p : Put t at a r l) where
+  pub put-next : (b : List ℕ) (r' : ℕ) (l' : List ℕ) → at + length a + length b ≤ length t → Puts l r b r' l' → Put t at (a ++ b) r' l'
+  put-next b r' l' h q =
+      put-then t at a r l p b r' l' (omega (arith, h)) (has-room l r b r' l' (omega (arith, h, p .0, put-length t at a r l p (omega (arith, h)))) q)
+
+-- no bytes are put anywhere
+pub none-put : (t : List ℕ) (at : ℕ) → Puts t at [] at t
+none-put t at = go (leb (at + 0) (length t))
+  where
+    same : t ≡ inserted t at []
+    same =
+        let e : at + 0 ≡ at = omega arith in
+        sym (ap (λ (k : ℕ). take at t ++ [] ++ drop k t) e ∙ ap (λ (l : List ℕ). l ++ drop at t) (append-nil (take at t)) ∙ take-append-drop at t)
+
+    go : (b : Bool) → (at ≡ cond b (at + 0) at) × (t ≡ cond b (inserted t at []) t)
+    go true = (omega arith, same)
+    go false = (refl, refl)

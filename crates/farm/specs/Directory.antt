@@ -1,12 +1,12 @@
 -- The farm file, a list of bytes: a directory of its sections, then these. Paper 02, "The farm file". Definitions only.
 use Prim.Native.Nat.{ℕ, zero, suc, _+_, _-_, _*_, _/_}
-use mathlib.Core.Bool.{Bool, true, _&&_}
-use mathlib.Core.List.{List, [], _∷_}
+use mathlib.Core.Bool.{Bool, true, cond, _&&_}
+use mathlib.Core.List.{List, [], _∷_, _++_}
 use lib.Dec.{leb}
-use lib.ListN.{length}
+use lib.ListN.{length, take, drop}
 use lib.Ieee.{Float}
 use Rattle.number.specs.Limits.{fewestSections, mostSections}
-use Rattle.number.specs.Bytes.{wordAt, numbersAt}
+use Rattle.number.specs.Bytes.{wordAt, numbersAt, loaded}
 use Rattle.farm.specs.declared.directory.Section.{Section}
 
 -- ---- the directory
@@ -48,6 +48,19 @@ endOf s = s .offset + s .size
 -- its bytes "as little-endian f64 numbers"
 abbrev pub numbersOf : List ℕ → Section → List Float
 numbersOf b s = numbersAt b (s .offset) (s .size / 8)
+
+-- ---- a section's numbers in front of a room
+
+abbrev pub fitsIn : Section → List Float → Bool
+fitsIn s room = leb (s .size / 8) (length room)
+
+-- how many there are; none where the room is too small
+abbrev pub roomTaken : Section → List Float → ℕ
+roomTaken s room = cond (fitsIn s room) (s .size / 8) 0
+
+-- what the room holds then, as far as the file has the section
+abbrev pub sectionLoaded : List ℕ → Section → List Float → List Float
+sectionLoaded b s room = cond (fitsIn s room) (loaded b (s .offset) (take (s .size / 8) room) ++ drop (s .size / 8) room) room
 
 -- ---- which files are well formed
 

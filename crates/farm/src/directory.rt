@@ -1,6 +1,6 @@
 // The directory of a farm file: a count of sections, then where each begins and how many bytes it has.
 ghost use mathlib.Core.Path.{_≡_};
-ghost use Prim.Native.Nat.{_<_, _≤_};
+ghost use Prim.Native.Nat.{_^_, _<_, _≤_};
 ghost use lib.ListN.{length};
 ghost use Rattle.number.specs.Limits.{mostSections};
 ghost use Rattle.farm.specs.Directory.{sectionAt, sectionsFrom, directoryEnd, endOf, inOrder, wellFormed};
@@ -22,8 +22,15 @@ impl Section {
     }
 }
 
+// Where a section lies, by the directory; zeros where the file is too short to say.
+pub fn section_of(file: &[u8], i: u32) -> Section
+    ensures { λ r. ⌜ r ≡ sectionAt (now (file .entry)) i ⌝ }
+{
+    section_at(file, i as usize)
+}
+
 pub(crate) fn section_at(file: &[u8], i: usize) -> Section
-    requires { ⌜ i < mostSections ⌝ }
+    requires { ⌜ i < 2 ^ 32 ⌝ }
     ensures { λ r. ⌜ r ≡ sectionAt (now (file .entry)) i ⌝ }
 {
     Section {

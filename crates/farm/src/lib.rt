@@ -2,4 +2,4 @@
 pub mod directory;
 pub mod farm_file;
 pub mod lines;
-mod sections;
+pub mod sections;

@@ -4,7 +4,7 @@ ghost use mathlib.Core.List.{_++_, map};
 ghost use Prim.Native.Nat.{_+_, _*_, _<_, _≤_};
 ghost use lib.ListN.{length, take};
 ghost use Rattle.farm.specs.FarmFile.{slotCount, farmFile};
-ghost use Rattle.farm.specs.Lines.{decimal, line, linesFrom, refusedLine, linesOf, shown, inserted, isYes};
+ghost use Rattle.farm.specs.Lines.{decimal, line, linesFrom, refusedLine, linesOf, shown, inserted, Puts, isYes};
 use crate::farm_file::farm_file;
 use number::answer::Counted;
 
@@ -17,25 +17,32 @@ pub struct Text {
     pub size: usize,
 }
 
-// Bytes to a place of a text; answers the place behind them.
-fn put(text: &mut [u8], at: usize, bytes: &[u8]) -> usize
-    requires { ⌜ at + length (now bytes) ≤ length (now text) ⌝ }
-    ensures { λ r. ⌜ (r ≡ at + length (now (bytes .entry))) × (now (text .exit) ≡ inserted (now (text .entry)) at (now (bytes .entry))) ⌝ }
+// Bytes to a place of a text, where there is room for them; answers the place behind them.
+pub fn put(text: &mut [u8], at: usize, bytes: &[u8]) -> usize
+    ensures { λ r. ⌜ Puts (now (text .entry)) at (now (bytes .entry)) r (now (text .exit)) ⌝ }
 {
+    if text.len() < at {
+        return at;
+    }
+    if text.len() - at < bytes.len() {
+        return at;
+    }
     at + bytes::copy(bytes, &mut text[at..])
 }
 
-// The digits of a number.
-fn put_decimal(text: &mut [u8], at: usize, n: u32) -> usize
-    requires { ⌜ (n < 100) × (at + 2 ≤ length (now text)) ⌝ }
-    ensures { λ r. ⌜ (r ≡ at + length (decimal n)) × (now (text .exit) ≡ inserted (now (text .entry)) at (decimal n)) ⌝ }
+// The digits of a number below 100.
+pub fn put_decimal(text: &mut [u8], at: usize, n: u32) -> usize
+    ensures { λ r. ⌜ Puts (now (text .entry)) at (decimal n) r (now (text .exit)) ⌝ }
 {
     if n < 10 {
         let digit = [48 + n as u8];
         return put(text, at, &digit);
     }
-    let digits = [48 + (n / 10) as u8, 48 + (n % 10) as u8];
-    put(text, at, &digits)
+    if n < 100 {
+        let digits = [48 + (n / 10) as u8, 48 + (n % 10) as u8];
+        return put(text, at, &digits);
+    }
+    at
 }
 
 // The line of a box.

@@ -11,10 +11,11 @@ ghost use Rattle.verdict.specs.BBox.{boxOf};
 ghost use Rattle.verdict.specs.View.{volumeLength, planesOf};
 ghost use Rattle.verdict.specs.Rows.{planesInRows};
 ghost use Rattle.verdict.specs.Frustum.{boxInView};
-ghost use Rattle.farm.specs.Directory.{wellFormed, volumeSection, boxSections, numbersOf};
+ghost use Rattle.farm.specs.Directory.{sectionAt, wellFormed, volumeSection, boxSections, numbersOf, roomTaken, sectionLoaded};
 ghost use Rattle.farm.specs.FarmFile.{volumeThere, countNumber, planeCount, sized, allFlagged, numbersFinite, inView, slotCount, slotOf, slots};
 ghost use Rattle.farm.specs.Steps.{Ready, countOrZero};
 use crate::directory::section_at;
+use crate::directory::section_of;
 use number::bytes::load;
 use number::bytes::number_at;
 use number::bytes::word_32;
@@ -127,6 +128,21 @@ pub(crate) fn are_finite(file: &[u8]) -> bool
         i += 1;
     }
     true
+}
+
+// The numbers of a section to the front of a room, where there is room for them; answers how many they are.
+pub fn load_section(file: &[u8], i: u32, room: &mut [f64]) -> usize
+    ensures { λ r. ⌜ (r ≡ roomTaken (sectionAt (now (file .entry)) i) (now (room .entry))) × (now (room .exit) ≡ sectionLoaded (now (file .entry)) (sectionAt (now (file .entry)) i) (now (room .entry))) ⌝ }
+{
+    let found = section_of(file, i);
+    let size = found.size as usize;
+    let start = found.offset as usize;
+    let count = size / NUMBER_SIZE;
+    if room.len() < count {
+        return 0;
+    }
+    load(file, start, &mut room[..count]);
+    count
 }
 
 // The slot of the box that starts at a place, by the first planes of the rows.

@@ -1,28 +1,50 @@
--- `lines::put_decimal` meets its contract: one digit or two. Assumes nothing.
-use mathlib.Core.Path.{_≡_, sym, ap}
+-- `lines::put_decimal` meets its contract: one digit, two, or none. Assumes nothing.
+use mathlib.Core.Path.{_≡_, sym}
 use mathlib.Core.Bool.{Bool, cond}
-use mathlib.Core.List.{[], _∷_}
+use mathlib.Core.List.{List, [], _∷_}
 use Prim.Native.Nat.{ℕ, _+_, _/_, _%_, _<_, _≤_}
 use borrow.Author.Needs.{needs}
 use borrow.Author.Tests.{lt-ltb, le-ltb}
+use lib.Dec.{ltb}
 use Rattle.farm.specs.Lines.{decimal}
-use Rattle.farm.proofs.Texts.{put-meant}
+use Rattle.farm.proofs.Texts.{puts-meant, none-put}
 use Rattle.farm.proofs.lines.put_decimal.Statement.{statement}
 use Rattle.farm.proofs.lines.put_decimal.Tie as tie
 
-one : (n : ℕ) → n < 10 → (48 + n) ∷ [] ≡ decimal n
-unfolding decimal
-one n h = sym (ap (λ (b : Bool). cond b ((48 + n) ∷ []) ((48 + n / 10) ∷ (48 + n % 10) ∷ [])) (lt-ltb n 10 h))
+module _ (n : ℕ) where
+  abbrev by : Bool → Bool → List ℕ
+  by b c = cond b ((48 + n) ∷ []) (cond c ((48 + n / 10) ∷ (48 + n % 10) ∷ []) [])
 
-two : (n : ℕ) → 10 ≤ n → (48 + n / 10) ∷ (48 + n % 10) ∷ [] ≡ decimal n
-unfolding decimal
-two n h = sym (ap (λ (b : Bool). cond b ((48 + n) ∷ []) ((48 + n / 10) ∷ (48 + n % 10) ∷ [])) (le-ltb n 10 h))
+  one : n < 10 → (48 + n) ∷ [] ≡ decimal n
+  unfolding decimal
+  one h = sym (λ k. by (lt-ltb n 10 h k) (ltb n 100))
+
+  two : 10 ≤ n → n < 100 → (48 + n / 10) ∷ (48 + n % 10) ∷ [] ≡ decimal n
+  unfolding decimal
+  two h l = sym (λ k. by (le-ltb n 10 h k) (lt-ltb n 100 l k))
+
+  no-digit : 10 ≤ n → 100 ≤ n → [] ≡ decimal n
+  unfolding decimal
+  no-digit h l = sym (λ k. by (le-ltb n 10 h k) (le-ltb n 100 l k))
 
 returns : tie.Need-returns
-returns c = let put = c .before .before in put-meant _ _ _ _ _ (put .put .ensures) _ (one _ (put .before .before .before .if1 .taken))
+returns c =
+    let put = c .before .before in
+    let tested = put .before .before .before in
+    let g = tested .before .before .args in
+    puts-meant (g .text .now) (g .at) _ _ _ _ (one (g .n) (tested .if1 .taken)) (put .put .ensures)
 
 returns-2 : tie.Need-returns-2
-returns-2 c = let put = c .before .before in put-meant _ _ _ _ _ (put .put2 .ensures) _ (two _ (put .before .before .before .if1 .left))
+returns-2 c =
+    let put = c .before .before in
+    let tested = put .before .before .before in
+    let g = tested .before .before .before .args in
+    puts-meant (g .text .now) (g .at) _ _ _ _ (two (g .n) (tested .before .if1 .left) (tested .if2 .taken)) (put .put2 .ensures)
+
+returns-3 : tie.Need-returns-3
+returns-3 c =
+    let g = c .before .before .before .args in
+    puts-meant (g .text .now) (g .at) _ _ _ _ (no-digit (g .n) (c .before .if1 .left) (c .if2 .left)) (none-put (g .text .now) (g .at))
 
 pub put-decimal-spec : {M : Type 1} → statement M
 put-decimal-spec =
@@ -41,4 +63,5 @@ put-decimal-spec =
     (λ c. search needs)
     (λ c κs. search needs)
     (λ c. search needs)
-    returns-2)
+    returns-2
+    returns-3)
