@@ -12,6 +12,7 @@ use lib.ListN.{length, take, drop}
 use lib.Pow.{pow-mono}
 use lib.Ieee.{Float}
 use Rattle.number.specs.Answer.{Outcome, refused, result}
+use Rattle.number.proofs.Comparisons.{refuted}
 use Rattle.matrix.specs.Range.{isEmpty}
 use Rattle.verdict.specs.declared.plane.Plane.{Plane}
 use Rattle.verdict.specs.declared.bbox.BBox3d.{BBox3d}
@@ -64,11 +65,17 @@ module _ (ps : List Plane) (b : BBox3d) where
       let l = ltb-false i n e in
       (λ s. absurd (past-last i (λ k. omega (arith, l, k)) s), λ s. absurd (omega (arith, l, s .0)))
 
+  pub bit-at : (i : ℕ) → i < n → isSet (blockingPlanes ps b) i ≡ t i
+  bit-at i h = ap (λ (m : ℕ). isSet m i) are-bits ∙ bit-is t i n h
+
+  pub past-planes : (i : ℕ) → n ≤ i → isSet (blockingPlanes ps b) i ≡ false
+  past-planes i h = ap (λ (m : ℕ). isSet m i) are-bits ∙ refuted (isSet (bits t n) i) (past-last i (λ k. omega (arith, h, k)))
+
   -- no bit is set exactly where the box is in view
-  no-bit-is : 0 < n → boxInView ps b ≡ true → blockingPlanes ps b ≡ 0
+  pub no-bit-is : 0 < n → boxInView ps b ≡ true → blockingPlanes ps b ≡ 0
   no-bit-is h s = are-bits ∙ no-bit t n (λ i l. is-not _ (seen-each b ps s i l))
 
-  no-bit-seen : 0 < n → blockingPlanes ps b ≡ 0 → boxInView ps b ≡ true
+  pub no-bit-seen : 0 < n → blockingPlanes ps b ≡ 0 → boxInView ps b ≡ true
   no-bit-seen h e = each-seen b ps h (λ i l. unset _ (none-set t n (sym are-bits ∙ e) i l))
 
 pub bits-mean : BitsMean

@@ -86,7 +86,7 @@ module _ (b : List ℕ) (r : Ready b) where
       ∙ ap (numberAt b) (omega arith)
 
   -- the record holds the planes that its count says
-  held : result (planeCount b) ≡ planesHeld volume
+  pub held : result (planeCount b) ≡ planesHeld volume
   held =
       all-held volume (omega (arith, volume-length, within)) (planeCount b)
       (said ∙ ap planeCountOf (sym count-first)) volume-length
