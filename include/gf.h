@@ -40,7 +40,7 @@
  * Places count from 0; none is GF_NO_PLACE, which also fills slots that are not used. A witness is written with a yes alone.
  *
  * NaN and infinities. A verdict, a yes or no about a view, is given on finite numbers alone: the gf_intersects_ functions, gf_exact_bbox,
- * gf_blocking_plane and gf_farm_file refuse a NaN or an infinity with 13, anywhere in what they are lent. To every other function
+ * gf_blocking_plane, gf_blocking_planes and gf_farm_file refuse a NaN or an infinity with 13, anywhere in what they are lent. To every other function
  * NaN and infinities may be lent anywhere, and the arithmetic is that of IEEE 754. A comparison with a NaN is false: a NaN
  * distance is on no plane's positive side, a NaN alone does not make a range empty, a NaN flag or kind is refused with 3, a NaN
  * determinant with 4. Least and greatest pass over one NaN. In a verdict a NaN can still come about where finite numbers
@@ -357,7 +357,7 @@ uint32_t gf_intersects_bboxes(const double *volume, size_t volume_len, const dou
  * In: bbox 23, m 16. Out: yes or no. Refuses: 1, 3, 13. */
 uint32_t gf_intersects_view_volume(const double *bbox, size_t bbox_len, const double *m, size_t m_len, uint32_t *out);
 
-/* ---- what hides a segment */
+/* ---- what hides a segment, and what a box is behind */
 
 /* Which plane alone hides a segment that is not in view: the lowest place of a plane without which gf_intersects_segment's rule, over
  * the planes left, gives a yes. Places count from 0 in the order of the record, and all are tried, the original six too, of which five
@@ -366,6 +366,14 @@ uint32_t gf_intersects_view_volume(const double *bbox, size_t bbox_len, const do
  * view.
  * In: volume, p0 3, p1 3. Out: a place. Refuses: 1, 12, 1, 13, 14. */
 uint32_t gf_blocking_plane(const double *volume, size_t volume_len, const double *p0, size_t p0_len, const double *p1, size_t p1_len, uint32_t *place);
+
+/* The planes that a box is wholly behind, a bit for each place: bit i of planes is set where gf_intersects_bbox's own test finds that the
+ * box does not reach plane i. An empty range reaches none, so that all bits of the volume's planes are set. 0 exactly where
+ * gf_intersects_bbox gives a yes; and one bit alone exactly where it would give a yes without that plane. On the farm grid, by planes
+ * along an axis, a bit is set exactly where no exact point of the placed box satisfies the plane. By other planes the test rounds: a
+ * box that touches one in a single point may get its bit. All refusals are those of gf_intersects_bbox.
+ * In: volume, bbox 23. Out: bits. Refuses: 1, 12, 1, 3, 13. */
+uint32_t gf_blocking_planes(const double *volume, size_t volume_len, const double *bbox, size_t bbox_len, uint32_t *planes);
 
 /* ---- verdicts in whole numbers: no float is read, made or written. Coordinates are at most 65536 in size, the entries
  * of a normal at most 128, a distance at most 16777216: the numbers of the farm grid */

@@ -13,6 +13,9 @@ with-status n a out r e f = ap (λ (k : ℕ). answered k out) e ∙ f
 pub with-number : (x : Lone Float) (o call : Outcome Float) (before : Float) → x ≡ put o before → o ≡ call → x ≡ put call before
 with-number x o call before e f = e ∙ ap (λ (c : Outcome Float). put c before) f
 
+pub with-count : (x : Lone ℕ) (o call : Outcome ℕ) (before : ℕ) → x ≡ put o before → o ≡ call → x ≡ put call before
+with-count x o call before e f = e ∙ ap (λ (c : Outcome ℕ). put c before) f
+
 pub with-verdict : (x : Lone ℕ) (o call : Outcome Bool) (before : ℕ) → x ≡ putVerdict o before → o ≡ call → x ≡ putVerdict call before
 with-verdict x o call before e f = e ∙ ap (λ (c : Outcome Bool). putVerdict c before) f
 
