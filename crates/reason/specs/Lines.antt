@@ -1,0 +1,60 @@
+-- The lines that say why a block has its class, as bytes in ASCII. Definitions only.
+use Prim.Native.Nat.{ℕ, suc}
+use mathlib.Core.Bool.{Bool, cond}
+use mathlib.Core.List.{List, [], _∷_, _++_}
+use lib.ListN.{take}
+use Rattle.number.specs.Answer.{Outcome, refused, result}
+use Rattle.farm.specs.Lines.{decimal}
+use Rattle.reason.specs.declared.lines.Text.{Text}
+
+-- what is told of a box: its verdict; whether its range is empty; the places of the planes that it is wholly behind; and the exact verdict, or that there is none
+pub record Reason : Type 0 where
+  pub verdict : Bool
+  pub empty : Bool
+  pub behind : List ℕ
+  pub exact : Outcome Bool
+
+-- " yes" or " no"
+abbrev pub verdictWord : Bool → List ℕ
+verdictWord v = cond v (32 ∷ 121 ∷ 101 ∷ 115 ∷ []) (32 ∷ 110 ∷ 111 ∷ [])
+
+-- " empty"
+abbrev pub emptyWord : List ℕ
+emptyWord = 32 ∷ 101 ∷ 109 ∷ 112 ∷ 116 ∷ 121 ∷ []
+
+-- places, "each with a space in front"
+unfoldable pub placeWords : List ℕ → List ℕ
+unfolding decimal
+placeWords [] = []
+placeWords (i ∷ is) = 32 ∷ decimal i ++ placeWords is
+
+-- behind a `no`: "the places of the planes that the box is wholly behind, rising, or the word `empty` where its range is empty"
+abbrev pub behindWords : Bool → Bool → List ℕ → List ℕ
+behindWords v empty behind = cond v [] (cond empty emptyWord (placeWords behind))
+
+-- " exact-yes" and " exact-no"
+abbrev pub exactYes : List ℕ
+exactYes = 32 ∷ 101 ∷ 120 ∷ 97 ∷ 99 ∷ 116 ∷ 45 ∷ 121 ∷ 101 ∷ 115 ∷ []
+
+abbrev pub exactNo : List ℕ
+exactNo = 32 ∷ 101 ∷ 120 ∷ 97 ∷ 99 ∷ 116 ∷ 45 ∷ 110 ∷ 111 ∷ []
+
+-- "Where `gf_exact_bbox` answers for the box [..] and its verdict is another than the line's, the line ends with a space and `exact-yes` or `exact-no`"
+abbrev pub exactWord : Bool → Outcome Bool → List ℕ
+exactWord v (refused k) = []
+exactWord v (result e) = cond v (cond e [] exactNo) (cond e exactYes [])
+
+-- the line of section k
+unfoldable pub line : ℕ → Reason → List ℕ
+unfolding decimal placeWords
+line k r = decimal k ++ verdictWord (r .verdict) ++ behindWords (r .verdict) (r .empty) (r .behind) ++ exactWord (r .verdict) (r .exact) ++ (10 ∷ [])
+
+-- "a line for each box in section order", from section k on
+unfoldable pub linesFrom : ℕ → List Reason → List ℕ
+unfolding line
+linesFrom k [] = []
+linesFrom k (r ∷ rs) = line k r ++ linesFrom (suc k) rs
+
+-- the lines of a text: its first bytes
+abbrev pub shown : Text → List ℕ
+shown t = take (t .size) (t .bytes)
