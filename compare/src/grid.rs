@@ -30,11 +30,12 @@ enum Ask {
     WholeSegment,
     ViewVolume,
     Blocking,
+    Behind,
     WholeBox,
     ExactBox,
 }
 
-const NAMES: [&str; 15] = [
+const NAMES: [&str; 16] = [
     "intersects_point",
     "intersects_segment",
     "intersects_bbox",
@@ -48,6 +49,7 @@ const NAMES: [&str; 15] = [
     "whole_intersects_segment",
     "intersects_view_volume",
     "blocking_plane",
+    "blocking_planes",
     "whole_intersects_bbox",
     "exact_bbox",
 ];
@@ -140,6 +142,13 @@ impl Engine<'_> {
         }
     }
 
+    /// The planes that a box is wholly behind, a bit for each.
+    fn behind(&self, planes: &[WholePlane], record: &[f64; 23]) -> Result<u32, String> {
+        let mut bits = [0.0];
+        self.call(Ask::Behind, &[farm_volume(planes).numbers(), record], Lent::to_write(&mut bits))?;
+        Ok(bits[0].to_bits() as u32)
+    }
+
     /// Whether an answer is the one expected.
     fn expect<T: PartialEq + Debug>(&self, what: &str, answer: T, expected: T, of: &dyn Debug) -> Result<(), String> {
         if answer == expected {
@@ -190,6 +199,8 @@ pub fn all(ops: &[Box<dyn Op>]) -> Vec<Farm<'_>> {
         farm("near ties", &[Ask::Segment, Ask::WholeSegment], near_ties),
         farm("grazing lines", &[Ask::Segment, Ask::WholeSegment], grazing_lines),
         farm("hidden lines", &[Ask::Blocking], hidden_lines),
+        farm("planes behind", &[Ask::Behind], planes_behind),
+        farm("oblique planes behind", &[Ask::Behind], oblique_behind),
         farm("points in clip space", &[Ask::ViewVolume], clipped),
         farm("oblique blocks", &[Ask::WholeBox], oblique_blocks),
         farm("turned oblique blocks", &[Ask::WholeBox], turned_blocks),
@@ -240,6 +251,44 @@ fn boxes(engines: &[Engine], _: u64, rng: &mut Rng) -> Result<usize, String> {
         engine.expect("a box", verdict, exact, &(&planes, given))?;
     }
     Ok(outcome(exact))
+}
+
+/// How far the placed box reaches past a plane, exactly: below 0 where no point
+/// of it satisfies the plane.
+fn reach(plane: &WholePlane, corners: [Whole; 2]) -> i64 {
+    exact::corners(corners).map(|p| plane.reach(p)).into_iter().max().expect("eight corners")
+}
+
+/// By axis planes a bit is set just where no exact point of the placed box
+/// satisfies the plane.
+fn planes_behind(engines: &[Engine], _: u64, rng: &mut Rng) -> Result<usize, String> {
+    let (six, given) = inputs::farm_box_view(rng);
+    let planes = among_others(rng, &six);
+    let bit = |(i, plane): (usize, &WholePlane)| u32::from(reach(plane, given.placed()) < 0) << i;
+    let exact: u32 = planes.iter().enumerate().map(bit).sum();
+    for engine in engines {
+        let bits = engine.behind(&planes, &given.record())?;
+        engine.expect("the planes behind", bits, exact, &(&planes, given))?;
+    }
+    Ok(outcome(exact == 0))
+}
+
+/// By planes in any direction a bit that is set means that no point of the placed
+/// box is strictly in front, and one that is not that some point satisfies the
+/// plane. What just touches may get either.
+fn oblique_behind(engines: &[Engine], _: u64, rng: &mut Rng) -> Result<usize, String> {
+    let (planes, corners) = inputs::oblique(rng);
+    let record = inputs::placed_block(rng, corners).record();
+    let mut kind = 0;
+    for engine in engines {
+        let bits = engine.behind(&planes, &record)?;
+        for (i, plane) in planes.iter().enumerate() {
+            let (set, reach) = (bits >> i & 1 == 1, reach(plane, corners));
+            engine.expect("a plane behind", set && reach > 0 || !set && reach < 0, false, &(&planes, corners, i))?;
+        }
+        kind = outcome(bits == 0);
+    }
+    Ok(kind)
 }
 
 /// Planes under a turn, where they stay within the limits.

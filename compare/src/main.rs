@@ -9,6 +9,7 @@
 //!     compare record [FILE]
 //!     compare record-farm FOLDER
 //!     compare lines
+//!     compare explained
 
 mod bench;
 mod call;
@@ -64,7 +65,8 @@ fn main() -> ExitCode {
         ["record", ..] => Err(String::from("record [FILE]")),
         ["record-farm", folder] => recorded_files(Path::new(folder)),
         ["record-farm", ..] => Err(String::from("record-farm FOLDER")),
-        ["lines"] => lines(),
+        ["lines"] => lines(reader::lines),
+        ["explained"] => lines(reader::explained),
         ["bench", ref names @ ..] => chosen(names).map(|functions| {
             bench::bench(&functions);
             true
@@ -73,7 +75,7 @@ fn main() -> ExitCode {
         ["grid", ref rest @ ..] => checked(rest),
         ["farm", ref rest @ ..] => read(rest),
         ["survey", ref rest @ ..] => surveyed(rest),
-        _ => Err(String::from("run | grid | farm | bench | survey | record | record-farm | lines")),
+        _ => Err(String::from("run | grid | farm | bench | survey | record | record-farm | lines | explained")),
     };
     match done {
         Ok(true) => ExitCode::SUCCESS,
@@ -103,13 +105,15 @@ fn checked(words: &[&str]) -> Result<bool, String> {
     Ok(run::run(trials.iter().map(|trial| trial as &dyn Trial), count, seed()?))
 }
 
-/// Farm files by the archive's reader and by the program.
+/// Farm files by the archive's reader and by the programs.
 fn read(words: &[&str]) -> Result<bool, String> {
     let (count, []) = counted(words, FILES)? else {
         return Err(String::from("farm [COUNT]"));
     };
     let program = env::var_os("FARM_FILE").ok_or("FARM_FILE names the program")?;
-    let trials: [&dyn Trial; 2] = [&FarmFiles::of_archive(), &Program::at(program.into())];
+    let explain = env::var_os("EXPLAIN").ok_or("EXPLAIN names the program")?;
+    let trials: [&dyn Trial; 3] =
+        [&FarmFiles::of_archive(), &Program::farm_file(program.into()), &Program::explain(explain.into())];
     Ok(run::run(trials.into_iter(), count, seed()?))
 }
 
@@ -172,9 +176,9 @@ fn recorded_files(folder: &Path) -> Result<bool, String> {
 }
 
 /// The judge's lines for the farm file at standard input.
-fn lines() -> Result<bool, String> {
+fn lines(of: fn(&[u8]) -> String) -> Result<bool, String> {
     let mut file = vec![];
     io::stdin().lock().read_to_end(&mut file).map_err(|error| format!("standard input: {error}"))?;
-    print!("{}", reader::lines(&file));
+    print!("{}", of(&file));
     Ok(true)
 }

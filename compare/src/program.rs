@@ -1,8 +1,9 @@
-//! The program that reads a farm file at its standard input: all that it
-//! prints, against the judge's lines.
+//! The programs that read a farm file at their standard input: all that they
+//! print, against the judge's lines.
 
 use crate::farm::described;
-use crate::inputs::{self, FarmFile, Rng};
+use crate::inputs::{self, Boxed, FarmFile, Rng, Volume, bytes_of};
+use crate::ops;
 use crate::reader::{self, LARGEST};
 use crate::trial::Trial;
 use std::fs::{self, File};
@@ -12,25 +13,43 @@ use std::process::{Child, ChildStdin, Command, Stdio};
 use std::sync::LazyLock;
 
 pub struct Program {
+    name: &'static str,
     path: PathBuf,
+    /// The judge's lines, the files that are always tried, and how others are
+    /// drawn.
+    lines: fn(&[u8]) -> String,
+    fixed: &'static LazyLock<Vec<Vec<u8>>>,
+    drawn: fn(&mut Rng) -> FarmFile,
     /// What is said where there is no such program.
     missing: Option<String>,
 }
 
 impl Program {
-    pub fn at(path: PathBuf) -> Program {
+    pub fn farm_file(path: PathBuf) -> Program {
+        Program { name: "program farm_file", lines: reader::lines, fixed: &FIXED, drawn: drawn_file, ..Program::at(path, "FARM_FILE") }
+    }
+
+    pub fn explain(path: PathBuf) -> Program {
+        Program {
+            name: "program explain",
+            lines: reader::explained,
+            fixed: &EXPLAINED,
+            drawn: drawn_to_explain,
+            ..Program::at(path, "EXPLAIN")
+        }
+    }
+
+    fn at(path: PathBuf, variable: &str) -> Program {
         let missing = (!path.is_file())
-            .then(|| format!("not run: there is no program {} (FARM_FILE names another)", path.display()));
-        Program { path, missing }
+            .then(|| format!("not run: there is no program {} ({variable} names another)", path.display()));
+        Program { name: "", path, lines: reader::lines, fixed: &FIXED, drawn: drawn_file, missing }
     }
 
     fn draw(&self, case: u64, mut rng: Rng) -> FarmFile {
-        let mut file = FarmFile::default();
-        match FIXED.get(case as usize) {
-            Some(bytes) => file.bytes.clone_from(bytes),
-            None => inputs::farm_file(&mut rng, &mut file),
+        match self.fixed.get(case as usize) {
+            Some(bytes) => FarmFile { bytes: bytes.clone() },
+            None => (self.drawn)(&mut rng),
         }
-        file
     }
 
     /// What is expected for a file, and what the program prints.
@@ -43,7 +62,7 @@ impl Program {
         } else {
             self.given_in_pieces(&file, case)
         };
-        let expected = reader::lines(&file);
+        let expected = (self.lines)(&file);
         (file, expected, printed.unwrap_or_else(|error| Err(error.to_string())))
     }
 
@@ -146,12 +165,41 @@ static FIXED: LazyLock<Vec<Vec<u8>>> = LazyLock::new(|| {
     [notable, inputs::large_files(), inputs::truncated_files(), longer.into()].concat()
 });
 
+fn drawn_file(rng: &mut Rng) -> FarmFile {
+    let mut file = FarmFile::default();
+    inputs::farm_file(rng, &mut file);
+    file
+}
+
+/// A file of one box.
+fn of_one((volume, b): &(Volume, Boxed)) -> FarmFile {
+    let mut file = FarmFile::default();
+    file.begin(2);
+    file.put(0, &bytes_of(volume.numbers()));
+    file.put(1, &bytes_of(b));
+    file
+}
+
+/// Any file, or a block that the filed verdict and the exact one may part on.
+pub fn drawn_to_explain(rng: &mut Rng) -> FarmFile {
+    if rng.once_in(2) { drawn_file(rng) } else { of_one(&inputs::exact_box(rng)) }
+}
+
+/// Files that are always explained: the same, those on which the two verdicts
+/// part, and boxes behind each plane.
+pub fn explained_files() -> Vec<Vec<u8>> {
+    let asked = ops::parted().into_iter().chain(ops::asked_to_explain());
+    FIXED.iter().filter(|file| file.len() <= 1 << 20).cloned().chain(asked.map(|asked| of_one(&asked).bytes)).collect()
+}
+
+static EXPLAINED: LazyLock<Vec<Vec<u8>>> = LazyLock::new(explained_files);
+
 /// How many files are drawn besides, at most.
 const DRAWN: u64 = 3000;
 
 impl Trial for Program {
     fn name(&self) -> &'static str {
-        "program farm_file"
+        self.name
     }
 
     fn note(&self) -> Option<&str> {
@@ -159,7 +207,7 @@ impl Trial for Program {
     }
 
     fn cases(&self, count: u64) -> u64 {
-        if self.missing.is_some() { 0 } else { FIXED.len() as u64 + count.min(DRAWN) }
+        if self.missing.is_some() { 0 } else { self.fixed.len() as u64 + count.min(DRAWN) }
     }
 
     fn agree(&self, case: u64, rng: Rng) -> Option<usize> {
@@ -182,10 +230,10 @@ mod tests {
     #[test]
     fn other_programs_are_found_out() {
         for path in ["/bin/true", "/bin/false", "/bin/cat"] {
-            let program = Program::at(path.into());
+            let program = Program::farm_file(path.into());
             let few = FIXED.iter().position(|file| file.len() == LARGEST + 1).expect("one is too large") as u64;
             assert_eq!(program.compare(0..few, 1).differences, few, "{path}");
         }
-        assert!(Program::at("/no/such/program".into()).cases(100) == 0);
+        assert!(Program::explain("/no/such/program".into()).cases(100) == 0);
     }
 }

@@ -1,9 +1,11 @@
 //! The farm file of paper 02, read by its words, with the Rust's verdict on
-//! each box: the judge of `gf_farm_file` and of the program.
+//! each box: the judge of `gf_farm_file` and of the programs.
 
 use crate::judge::{
     FEWEST_PLANES, MISSING_NUMBER, MOST_PLANES, NO_FARM_FILE, NO_SUCH_VALUE, WRONG_INPUT, WRONG_OUTPUT, WRONG_SECTION,
 };
+use crate::inputs::Boxed;
+use crate::ops::{behind, block_seen};
 use crate::rust::{ask, boxed, counted};
 use openusd::gf::BBox3d;
 
@@ -160,9 +162,163 @@ pub fn lines(file: &[u8]) -> String {
     }
 }
 
+/// What is told of a box: its verdict, whether its range is empty, the planes
+/// that it is wholly behind, a bit for each, how many planes there are, and the
+/// exact verdict, where there is one.
+#[derive(Clone, Copy)]
+pub struct Told {
+    pub yes: bool,
+    pub empty: bool,
+    pub behind: u32,
+    pub planes: usize,
+    pub exact: Option<bool>,
+}
+
+impl Told {
+    fn of(volume: &[f64], planes: usize, record: &Boxed) -> Told {
+        let placed = boxed(record).expect("its flag is 0 or 1");
+        Told {
+            yes: ask(volume, planes, |v| v.intersects_bbox(&placed), |v| v.intersects_bbox(&placed)),
+            empty: placed.range.is_empty(),
+            behind: behind(volume, planes, &placed),
+            planes,
+            exact: block_seen(volume, record).ok(),
+        }
+    }
+
+    /// The line of a box.
+    pub fn line(&self, number: usize) -> String {
+        let mut line = format!("{number} {}", word(self.yes));
+        if !self.yes && self.empty {
+            line += " empty";
+        } else if !self.yes {
+            for place in (0..self.planes).filter(|place| self.behind >> place & 1 == 1) {
+                line += &format!(" {place}");
+            }
+        }
+        match self.exact {
+            Some(exact) if exact != self.yes => line + " exact-" + word(exact) + "\n",
+            _ => line + "\n",
+        }
+    }
+}
+
+fn word(yes: bool) -> &'static str {
+    if yes { "yes" } else { "no" }
+}
+
+/// What is told of each box of a file, or the number of a refusal.
+pub fn told(file: &[u8]) -> Result<Vec<Told>, u32> {
+    if file.len() > LARGEST {
+        return Err(WRONG_INPUT);
+    }
+    let (planes, pair, boxes) = checked(file, true)?;
+    let (offset, length) = section(pair);
+    let words = file[offset as usize..][..length as usize].as_chunks().0;
+    let volume: Vec<f64> = words.iter().map(|word| f64::from_le_bytes(*word)).collect();
+    Ok(boxes.iter().map(|pair| Told::of(&volume, planes, &record(file, pair))).collect())
+}
+
+/// The lines that `explain` is to print for a file.
+pub fn explained(file: &[u8]) -> String {
+    match told(file) {
+        Ok(all) => all.iter().enumerate().map(|(i, told)| told.line(i + 1)).collect(),
+        Err(refusal) => format!("refused {refusal}\n"),
+    }
+}
+
 #[cfg(test)]
 mod tests {
     use super::*;
+    use crate::inputs::Rng;
+    use crate::planted::slips;
+    use crate::program;
+
+    slips! {
+        None
+        // The places.
+        PlacesFromOne LastPlaneLeftOut FirstPlaneLeftOut ReachedPlanes Falling FirstPlaceAlone SixAlone BitsPrinted
+        PlacesBehindAYes PlacesOfAnEmptyRange TwoSpaces CommaBetween
+        // The words.
+        EmptyIsAllPlaces EmptyLeftOut EmptyBehindAYes NoWithoutReason
+        // The exact verdict.
+        ExactNever ExactAlways ExactWhereAlike ExactTurned ExactNoAlone ExactYesAlone ExactOffTheGridIsNo ExactInFront
+    }
+
+    /// The line of a box with a slip.
+    fn slipped(slip: Slip, told: &Told, number: usize) -> String {
+        let bits = match slip {
+            Slip::LastPlaneLeftOut => told.behind & !(1 << (told.planes - 1)),
+            Slip::FirstPlaneLeftOut => told.behind & !1,
+            Slip::ReachedPlanes => told.behind ^ ((1 << told.planes) - 1),
+            Slip::SixAlone => told.behind & 63,
+            Slip::FirstPlaceAlone => told.behind & told.behind.wrapping_neg(),
+            _ => told.behind,
+        };
+        let mut places: Vec<usize> = (0..told.planes).filter(|place| bits >> place & 1 == 1).collect();
+        if slip == Slip::Falling {
+            places.reverse();
+        }
+        let gap = match slip {
+            Slip::TwoSpaces => "  ",
+            Slip::CommaBetween => ",",
+            _ => " ",
+        };
+        let mut reason: String = match slip {
+            Slip::BitsPrinted => format!(" {bits}"),
+            Slip::PlacesFromOne => places.iter().map(|place| format!(" {}", place + 1)).collect(),
+            _ => places.iter().map(|place| format!("{gap}{place}")).collect(),
+        };
+        if told.empty && slip != Slip::EmptyIsAllPlaces {
+            reason = match slip {
+                Slip::EmptyLeftOut => String::new(),
+                Slip::PlacesOfAnEmptyRange => format!("{reason} empty"),
+                _ => String::from(" empty"),
+            };
+        }
+        if told.yes {
+            reason = match slip {
+                Slip::PlacesBehindAYes => (0..told.planes).map(|place| format!(" {place}")).collect(),
+                Slip::EmptyBehindAYes => String::from(" empty"),
+                _ => String::new(),
+            };
+        } else if slip == Slip::NoWithoutReason {
+            reason = String::new();
+        }
+        let exact = match slip {
+            Slip::ExactNever => None,
+            Slip::ExactAlways => told.exact,
+            Slip::ExactWhereAlike => told.exact.filter(|&exact| exact == told.yes),
+            Slip::ExactTurned => told.exact.filter(|&exact| exact != told.yes).map(|exact| !exact),
+            Slip::ExactNoAlone => told.exact.filter(|&exact| exact != told.yes && !exact),
+            Slip::ExactYesAlone => told.exact.filter(|&exact| exact != told.yes && exact),
+            Slip::ExactOffTheGridIsNo => Some(told.exact.unwrap_or(false)).filter(|&exact| exact != told.yes),
+            _ => told.exact.filter(|&exact| exact != told.yes),
+        };
+        let exact = exact.map_or(String::new(), |exact| format!(" exact-{}", word(exact)));
+        let [first, second] = if slip == Slip::ExactInFront { [exact, reason] } else { [reason, exact] };
+        format!("{number} {}{first}{second}\n", word(told.yes))
+    }
+
+    /// Each slip is found by the files that are always tried with `explain`.
+    #[test]
+    fn slips_in_explained_lines() {
+        let all: Vec<Vec<Told>> = program::explained_files().iter().filter_map(|file| told(file).ok()).collect();
+        for &slip in ALL {
+            let differs = |told: &Told| slipped(slip, told, 7) != told.line(7);
+            assert_eq!(all.iter().flatten().any(differs), slip != Slip::None, "{slip:?}");
+        }
+    }
+
+    /// `cut -d ' ' -f 1,2` of the explained lines gives the program's.
+    #[test]
+    fn the_first_two_words() {
+        let drawn = (0..2000).map(|case| program::drawn_to_explain(&mut Rng::at(3, case)).bytes);
+        for file in program::explained_files().into_iter().chain(drawn) {
+            let cut = |line: &str| line.splitn(3, ' ').take(2).collect::<Vec<_>>().join(" ") + "\n";
+            assert_eq!(explained(&file).lines().map(cut).collect::<String>(), lines(&file));
+        }
+    }
 
     /// The paper's smallest file: the volume and a box in view, written out.
     #[test]

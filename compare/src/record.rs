@@ -28,7 +28,7 @@ pub fn write_files(files: &mut dyn Write, lines: &mut dyn Write) -> io::Result<u
     for (place, file) in notable.iter().enumerate() {
         files.write_all(&(file.bytes.len() as u32).to_le_bytes())?;
         files.write_all(&file.bytes)?;
-        write!(lines, "file {}\n{}", place + 1, reader::lines(&file.bytes))?;
+        write!(lines, "file {}\n{}{}", place + 1, reader::lines(&file.bytes), reader::explained(&file.bytes))?;
     }
     files.flush()?;
     lines.flush()?;
@@ -61,7 +61,7 @@ mod tests {
                 7 => &[7],
                 201..=205 | 216 => &[3],
                 218..=220 => &[1, 12, 13],
-                221 => &[1, 3, 12, 13],
+                221 | 231 => &[1, 3, 12, 13],
                 222 => &[3, 13],
                 103 | 211 => &[4],
                 214 | 215 => &[5],

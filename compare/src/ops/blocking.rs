@@ -1,20 +1,22 @@
-//! Which plane alone hides a segment.
+//! Which plane alone hides a segment, and which planes a box is behind.
 
 #[cfg(test)]
 mod slips;
 
-use super::verdict::{mended, odd_counts, segment_seen, struck_volumes};
+use super::verdict::{
+    asked_boxes, mended, mended_boxes, odd_counts, segment_seen, struck_boxes, struck_volumes, timed_box,
+};
 use crate::call::Call;
 use crate::exported::{call, of_archive};
-use crate::inputs::{self, CUBE, Plane, Point, Rng, Volume, with};
+use crate::inputs::{self, Boxed, CUBE, IDENTITY, Plane, Point, Range, Rng, Volume, box_of, with};
 use crate::judge::{FEWEST_PLANES, IN_VIEW, MOST_PLANES, NO_PLACE, finite};
 use crate::lent::{Ins, Lent, Pointer, Side};
 use crate::op::Op;
-use crate::rust::{count_by_length, held, plane, point};
-use openusd::gf::Screens;
+use crate::rust::{boxed, count_by_length, held, plane, point};
+use openusd::gf::{BBox3d, Screens};
 
 pub fn all() -> Vec<Box<dyn Op>> {
-    vec![of_segment().op()]
+    vec![of_segment().op(), of_box().op()]
 }
 
 /// Whether the Rust has the segment in view by the planes left without one.
@@ -275,9 +277,90 @@ fn of_segment() -> Call<Asked> {
     .timed_beside("the last hides, 14 verdicts", |_, rng| timed_screen(rng), verdicts())
 }
 
+/// The planes that a box is wholly behind, a bit for each place: those by which
+/// alone the Rust does not have it in view.
+pub fn behind(volume: &[f64], count: usize, b: &BBox3d) -> u32 {
+    let records = &volume[1..].as_chunks().0[..count];
+    let sees = |record: &Plane| Screens { planes: &[plane(record)] }.intersects_bbox(b);
+    records.iter().enumerate().map(|(i, record)| u32::from(!sees(record)) << i).sum()
+}
+
+/// Boxes beside the cube, with a shed and a wall, each with its answer.
+fn worked_boxes() -> Vec<((Volume, Boxed), u32)> {
+    let unplaced = |r: Range| box_of(r, IDENTITY, 0.0);
+    let cube = |r: Range| (Volume::of(CUBE), unplaced(r));
+    let most = inputs::with_planes(CUBE, MOST_PLANES);
+    let mut all = vec![
+        (cube([1.0, 1.0, 1.0, 2.0, 2.0, 2.0]), 0),
+        // Touching, and behind each plane alone.
+        (cube([10.0, 0.0, 0.0, 12.0, 1.0, 1.0]), 0),
+        (cube([-2.0, 0.0, 0.0, -1.0, 1.0, 1.0]), 1 << 0),
+        (cube([11.0, 0.0, 0.0, 12.0, 1.0, 1.0]), 1 << 1),
+        (cube([0.0, -2.0, 0.0, 1.0, -1.0, 1.0]), 1 << 2),
+        (cube([0.0, 11.0, 0.0, 1.0, 12.0, 1.0]), 1 << 3),
+        (cube([0.0, 0.0, -2.0, 1.0, 1.0, -1.0]), 1 << 4),
+        (cube([0.0, 0.0, 11.0, 1.0, 1.0, 12.0]), 1 << 5),
+        // Behind three, at a corner; behind opposite ones, as none can be but
+        // an empty range.
+        (cube([11.0, 11.0, 11.0, 12.0, 12.0, 12.0]), 0b10_1010),
+        (cube([1.0, 0.0, 0.0, 0.0, 1.0, 1.0]), 0b11_1111),
+        ((most, unplaced([1.0, 0.0, 0.0, 0.0, 1.0, 1.0])), (1 << MOST_PLANES) - 1),
+        ((cube_with(&[SHED]), unplaced([8.0, 6.0, 5.0, 9.0, 7.0, 6.0])), 1 << 6),
+        ((cube_with(&[SHED, WALL]), unplaced([8.0, 6.0, 4.0, 9.0, 7.0, 5.0])), 0b1100_0000),
+        ((shed_in_front(), unplaced([8.0, 6.0, 5.0, 9.0, 7.0, 6.0])), 1 << 0),
+        // A plane that nothing satisfies is one that everything is behind.
+        ((cube_with(&[NEVER, IDLE]), unplaced([1.0, 1.0, 1.0, 2.0, 2.0, 2.0])), 1 << 6),
+    ];
+    // The shed at each place behind the six, of each count.
+    for count in FEWEST_PLANES + 1..=MOST_PLANES {
+        for place in FEWEST_PLANES..count {
+            let mut more = vec![FAR_OFF; count - FEWEST_PLANES];
+            more[place - FEWEST_PLANES] = SHED;
+            all.push(((cube_with(&more), unplaced([8.0, 6.0, 5.0, 9.0, 7.0, 6.0])), 1 << place));
+        }
+    }
+    all
+}
+
+/// The same without their answers.
+pub fn asked_to_explain() -> Vec<(Volume, Boxed)> {
+    worked_boxes().into_iter().map(|(asked, _)| asked).collect()
+}
+
+fn of_box() -> Call<(Volume, Boxed)> {
+    let fixed = asked_to_explain().into_iter().chain(asked_boxes());
+    // Without tests.
+    let untested = || {
+        call!(231 gf_blocking_planes(volume: Volume, b: 23) -> u32 {
+            Ok(behind(volume, count_by_length(volume), &boxed(b)?))
+        })
+    };
+    call!(231 gf_blocking_planes(volume: Volume, b: 23) -> u32 {
+        let count = held(volume)?;
+        let placed = boxed(b)?;
+        (finite(volume)?, finite(b)?);
+        Ok(behind(volume, count, &placed))
+    })
+    .fixed(fixed.collect())
+    .tried(super::exact_box::parted())
+    .mended(mended_boxes())
+    .missing(&struck_boxes())
+    .drawn(|_, rng| inputs::volume_and_box(rng))
+    .timed_by("frustums, rigid boxes", |_, rng| timed_box(rng, FEWEST_PLANES), untested())
+    .timed_by("the most planes, rigid boxes", |_, rng| timed_box(rng, MOST_PLANES), untested())
+}
+
 #[cfg(test)]
 mod tests {
     use super::*;
+
+    #[test]
+    fn the_worked_boxes() {
+        for (i, ((volume, b), answer)) in worked_boxes().into_iter().enumerate() {
+            let count = held(volume.numbers()).expect("a count");
+            assert_eq!(behind(volume.numbers(), count, &boxed(&b).expect("a box")), answer, "{i}: {b:?}");
+        }
+    }
 
     #[test]
     fn the_worked_segments() {

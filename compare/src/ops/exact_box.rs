@@ -88,7 +88,8 @@ fn accepted(volume: &[f64], b: &Boxed) -> Result<Oblique, u32> {
     Ok((planes.collect::<Result<_, u32>>()?, grid_box(b)?))
 }
 
-fn block_seen(volume: &[f64], b: &Boxed) -> Result<bool, u32> {
+/// Whether a box as it is placed and a view share an exact point.
+pub fn block_seen(volume: &[f64], b: &Boxed) -> Result<bool, u32> {
     accepted(volume, b).map(|(planes, corners)| exact::shares_a_point(&planes, corners))
 }
 
@@ -96,7 +97,7 @@ const UNIT: Range = [0.0, 0.0, 0.0, 1.0, 1.0, 1.0];
 
 /// The inputs that part from the filed verdict, and one placed block by two
 /// records, of which it gives one no and the other yes.
-pub(super) fn parted() -> Vec<(Volume, Boxed)> {
+pub fn parted() -> Vec<(Volume, Boxed)> {
     let identity = Turn::numbered(0);
     let record = |[min, max]: [Whole; 2]| FarmBox { min, max, placement: identity, flag: false }.record();
     let mut all: Vec<(Volume, Boxed)> =

@@ -18,6 +18,8 @@ mod verdict;
 mod whole;
 mod whole_box;
 
+pub use blocking::{asked_to_explain, behind};
+pub use exact_box::{block_seen, parted};
 pub use whole::whole_lent;
 pub use whole_box::whole_box_lent;
 
@@ -50,6 +52,6 @@ mod tests {
     #[test]
     fn codes_are_in_the_order_of_the_functions() {
         let codes: Vec<u64> = super::all().iter().map(|op| op.code()).collect();
-        assert_eq!(codes, (1..=7).chain(101..=116).chain(201..=229).chain([232, 233]).collect::<Vec<u64>>());
+        assert_eq!(codes, (1..=7).chain(101..=116).chain(201..=229).chain([231, 232, 233]).collect::<Vec<u64>>());
     }
 }

@@ -313,7 +313,7 @@ fn box_seen(volume: &[f64], count: usize, b: &Boxed, tests: bool) -> Result<bool
     Ok(ask(volume, count, |v| v.intersects_bbox(&b), |v| v.intersects_bbox(&b)))
 }
 
-fn timed_box(rng: &mut inputs::Rng, count: usize) -> (Volume, Boxed) {
+pub(super) fn timed_box(rng: &mut inputs::Rng, count: usize) -> (Volume, Boxed) {
     let (six, [x, y, z], ..) = inputs::asked(rng);
     let placed = with(inputs::rigid_placement(rng), &[(12, x), (13, y), (14, z)]);
     (inputs::with_planes(six, count), box_of(inputs::ordinary_range(rng), placed, 0.0))
@@ -327,12 +327,12 @@ fn overflowing_box() -> (Six, Boxed, bool) {
     (CUBE, box_of(UNIT, m, 0.0), true)
 }
 
-fn of_box() -> Call<(Volume, Boxed)> {
+/// Boxes that are always asked of a view, each with its volume.
+pub(super) fn asked_boxes() -> Vec<(Volume, Boxed)> {
     let turned = |x: f64| {
         let rows = [[0.0, 1.0, 0.0], [-1.0, 0.0, 0.0], [0.0, 0.0, 1.0]];
         inputs::placement_of(rows, [x, 0.0, 0.0])
     };
-    let unplaced = |r: Range| box_of(r, IDENTITY, 0.0);
     let boxes: [Boxed; 25] = [
         // The marked verdicts.
         unplaced([10.0, 0.0, 0.0, 12.0, 1.0, 1.0]),
@@ -387,9 +387,24 @@ fn of_box() -> Call<(Volume, Boxed)> {
         more[count - 7] = [-1.0, 0.0, 0.0, -6.0];
         (Volume::with_more(CUBE, &more), unplaced([7.0, 0.0, 0.0, 9.0, 1.0, 1.0]))
     });
+    let fixed = boxes.map(|b| (CUBE, b)).into_iter().chain(more).map(|(six, b)| (Volume::of(six), b));
+    fixed.chain(counts).chain(walls).collect()
+}
+
+fn unplaced(r: Range) -> Boxed {
+    box_of(r, IDENTITY, 0.0)
+}
+
+/// A volume and a box with every fault of a call, mended one after another.
+pub(super) fn mended_boxes() -> Vec<(Volume, Boxed)> {
     let unmeasured = with(UNIT, &[(4, NAN)]);
-    let mut mended_boxes = mended().map(|volume| (volume, box_of(unmeasured, IDENTITY, 0.5))).to_vec();
-    mended_boxes.extend([unmeasured, UNIT].map(|range| (Volume::of(CUBE), unplaced(range))));
+    let mut all = mended().map(|volume| (volume, box_of(unmeasured, IDENTITY, 0.5))).to_vec();
+    all.extend([unmeasured, UNIT].map(|range| (Volume::of(CUBE), unplaced(range))));
+    all
+}
+
+/// Volumes and boxes of which any number may be missing.
+pub(super) fn struck_boxes() -> Vec<(Volume, Boxed)> {
     // In view; of an empty range; without inverse; with no flag; outside.
     let asked = [
         unplaced(UNIT),
@@ -398,8 +413,10 @@ fn of_box() -> Call<(Volume, Boxed)> {
         box_of(UNIT, IDENTITY, 0.5),
         unplaced([-2.0, 0.0, 0.0, -1.0, 1.0, 1.0]),
     ];
-    let struck = struck_volumes().into_iter().flat_map(|volume| asked.map(|b| (volume, b)));
-    let fixed = boxes.map(|b| (CUBE, b)).into_iter().chain(more).map(|(six, b)| (Volume::of(six), b));
+    struck_volumes().into_iter().flat_map(|volume| asked.map(|b| (volume, b))).collect()
+}
+
+fn of_box() -> Call<(Volume, Boxed)> {
     let scaled_boxes = |_, rng: &mut inputs::Rng| {
         let (six, _, _, _, b) = inputs::asked(rng);
         (Volume::of(six), b)
@@ -413,10 +430,10 @@ fn of_box() -> Call<(Volume, Boxed)> {
     let many = call!(221 gf_intersects_bbox(volume: Volume, b: 23) -> bool { box_seen(volume, count_by_length(volume), b, false) });
     let many_tested = call!(221 gf_intersects_bbox(volume: Volume, b: 23) -> bool { box_seen(volume, count_by_length(volume), b, true) });
     call!(221 gf_intersects_bbox(volume: Volume, b: 23) -> bool { box_seen(volume, held(volume)?, b, true) })
-        .fixed(fixed.chain(counts).chain(walls).collect())
+        .fixed(asked_boxes())
         .tried(super::exact_box::parted())
-        .mended(mended_boxes)
-        .missing(&struck.collect::<Vec<_>>())
+        .mended(mended_boxes())
+        .missing(&struck_boxes())
         .drawn(|_, rng| inputs::volume_and_box(rng))
         .timed_by("frustums, scaled boxes", scaled_boxes, six())
         .timed_by("frustums, rigid boxes", |_, rng| timed_box(rng, 6), six())
