@@ -1,5 +1,5 @@
 // Replays recorded farm files, one behind the other on standard input: 32 bits that say how many bytes a file has, the low byte
-// first, and its bytes. For each the program prints its place and its lines.
+// first, and its bytes. For each the program prints its place, its lines and its explained lines.
 use farm::lines::front;
 use farm::lines::lines;
 use number::bytes::word_32;
@@ -20,6 +20,8 @@ fn replay_file(place: u64, room: &mut [u8], size: usize) {
     print_place(place);
     let text = lines(file);
     io::write_all(1, front(&text.bytes, text.size));
+    let explained = reason::lines::lines(file);
+    io::write_all(1, front(&explained.bytes, explained.size));
 }
 
 // Replays the next file, and answers whether there was one.
