@@ -1,5 +1,5 @@
 // The operations of the crates `number`, codes from 1, `matrix`, from 101, `verdict`, from 201, `camera`, 223, `group`, 224 and 228,
-// `nearest`, 225 and 226, `whole`, 227, `blocking`, 229, `exact`, 232, and `placed`, 233.
+// `nearest`, 225 and 226, `whole`, 227, `blocking`, 229 and 231, `exact`, 232, and `placed`, 233.
 ghost use Prim.Native.Nat.{_<_};
 use crate::blocking_operations;
 use crate::camera_operations;
@@ -33,8 +33,8 @@ pub(crate) fn lengths(code: u64, given: usize) -> [u8; 5] {
     if code == 227 {
         return whole_operations::lengths(given);
     }
-    if code == 229 {
-        return blocking_operations::lengths(given);
+    if (code == 229) | (code == 231) {
+        return blocking_operations::lengths(code, given);
     }
     if (code == 232) | (code == 233) {
         return exact_operations::lengths(code, given);
@@ -87,8 +87,8 @@ pub(crate) fn call(code: u64, given: &[f64], lengths: [u8; 5], out: &mut [f64]) 
     if code == 227 {
         return whole_operations::call(a, b, c, out);
     }
-    if code == 229 {
-        return blocking_operations::call(a, b, c, out);
+    if (code == 229) | (code == 231) {
+        return blocking_operations::call(code, a, b, c, out);
     }
     if (code == 232) | (code == 233) {
         return exact_operations::call(code, a, b, out);

@@ -104,6 +104,7 @@ fn print_whole_counts(agreed: &[u64; 256], read: &[u64; 256]) {
 
 fn print_blocking_counts(agreed: &[u64; 256], read: &[u64; 256]) {
     print_count(b"blocking_plane", 229, agreed, read);
+    print_count(b"blocking_planes", 231, agreed, read);
 }
 
 fn print_exact_counts(agreed: &[u64; 256], read: &[u64; 256]) {
