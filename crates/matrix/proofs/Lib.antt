@@ -3,6 +3,8 @@ pub mod Literals
 pub mod Same
 pub mod Composed
 pub mod Emptiness
+pub mod EitherWay
+pub mod Ordered
 pub mod Settled
 pub mod Axes
 pub mod EveryOrder

@@ -1,77 +1,127 @@
--- Where one comparison settles the smaller and the larger: in a range none of whose numbers is a zero or a NaN. Assumes nothing.
-use mathlib.Core.Path.{_≡_, refl, sym, ap, _∙_, subst}
-use mathlib.Core.Bool.{Bool, true}
-use Prim.Native.Nat.{ℕ}
-use lib.Dec.{T}
-use lib.Ieee.{Float, binary64}
-use Rattle.number.specs.Arithmetic.{_⊗_, lowerOf, upperOf, minOf, maxOf}
-use Rattle.number.proofs.NearZeros.{Near, equal, near-nonzero, near-min, near-max, near-add}
-use Rattle.number.proofs.Nonzero.{factors}
+-- Where one comparison for each choice settles a moved range: a sum that starts from another number than -0 does not see the sign of a zero that is added. The idea: such
+-- a sum is never -0 itself, and a zero added to it leaves it as it is, whatever the zero's sign. Assumes nothing.
+use mathlib.Core.Path.{_≡_, refl, sym, ap, ap₂, _∙_, subst}
+use mathlib.Core.Bool.{Bool, true, false, not, cond, _&&_}
+use Prim.Native.Nat.{ℕ, zero, suc, _^_}
+use lib.IntN.{ℤ, pos}
+use lib.Dec.{T, eqb}
+use lib.Ieee.{Float, nan, inf, fin, binary64, add, lt, eq, isNan, toBits}
+use lib.Ieee.Fits.{mul-fits, add-fits}
+use Rattle.number.specs.Arithmetic.{_⊕_, _⊗_, zeroOf, lowerOf, upperOf, minOf, maxOf}
+use Rattle.number.specs.Extremes.{Value}
+use Rattle.number.proofs.Extremes.{is-zero}
+use Rattle.number.proofs.Tests.{both-hold}
+use Rattle.number.proofs.NearZeros.{Near, equal, zeros, nothing, near-min, near-max}
+use Rattle.number.proofs.Zeros.{number-before, both-zeros, negative-zero-sum}
 use Rattle.matrix.specs.declared.vec.Vec3d.{Vec3d}
 use Rattle.matrix.specs.declared.matrix.Mat4d.{Mat4d}
 use Rattle.matrix.specs.declared.range.Range3d.{Range3d}
-use Rattle.matrix.specs.Vec.{axis, eachAxis}
-use Rattle.matrix.specs.Matrix.{entry}
+use Rattle.matrix.specs.Vec.{axis, vec3}
+use Rattle.matrix.specs.Matrix.{entry, translation}
 use Rattle.matrix.specs.Transform.{column}
-use Rattle.matrix.specs.Range.{range, joined, intersection, sumFrom, reach, reached}
-use Rattle.matrix.specs.Steps.{nonzeroBounds}
+use Rattle.matrix.specs.Range.{range, sumFrom, reach, reached}
+use Rattle.matrix.specs.Steps.{Numbers, numbersAlong, noNegativeZero, noNegativeZeros, settled, Settling}
+use Rattle.matrix.proofs.Ordered.{are-numbers}
 use Rattle.matrix.proofs.Same.{same-vec3, same-range}
 
--- ---- a range, of which each number is near the one that is meant
+-- ---- the same number, and not -0, unless the first is a NaN
 
-module _ (r s : Range3d) (X : Near (r .min .x) (s .min .x)) (Y : Near (r .min .y) (s .min .y)) (Z : Near (r .min .z) (s .min .z))
-    (X' : Near (r .max .x) (s .max .x)) (Y' : Near (r .max .y) (s .max .y)) (Z' : Near (r .max .z) (s .max .z)) where
-  all-settled : nonzeroBounds r ≡ true → r ≡ s
-  all-settled h =
-      let xyz = factors (r .min .x ⊗ r .max .x ⊗ (r .min .y ⊗ r .max .y)) (r .min .z ⊗ r .max .z) (subst T (sym h) tt) in
-      let xy = factors (r .min .x ⊗ r .max .x) (r .min .y ⊗ r .max .y) (xyz .0) in
-      let x = factors (r .min .x) (r .max .x) (xy .0) in
-      let y = factors (r .min .y) (r .max .y) (xy .1) in
-      let z = factors (r .min .z) (r .max .z) (xyz .1) in
-      same-range (same-vec3 (near-nonzero X (x .0)) (near-nonzero Y (y .0)) (near-nonzero Z (z .0)))
-      (same-vec3 (near-nonzero X' (x .1)) (near-nonzero Y' (y .1)) (near-nonzero Z' (z .1)))
+data Kept : Float → Float → Type 0 where
+  kept : {x y : Float} → x ≡ y → (x ≡ zeroOf true → ⊥) → Kept x y
+  lost : {x y : Float} → x ≡ nan → Kept x y
 
-module _ (a b c d : Vec3d) where
-  settled-outward : nonzeroBounds (range (eachAxis lowerOf a b) (eachAxis upperOf c d)) ≡ true
-      → range (eachAxis lowerOf a b) (eachAxis upperOf c d) ≡ range (eachAxis minOf a b) (eachAxis maxOf c d)
-  settled-outward = all-settled (range (eachAxis lowerOf a b) (eachAxis upperOf c d)) (range (eachAxis minOf a b) (eachAxis maxOf c d))
-      (near-min (a .x) (b .x)) (near-min (a .y) (b .y)) (near-min (a .z) (b .z)) (near-max (c .x) (d .x)) (near-max (c .y) (d .y)) (near-max (c .z) (d .z))
+settles : {x y : Float} → Kept x y → isNan x ≡ false → x ≡ y
+unfolding isNan
+settles (kept p n) h = p
+settles (lost p) h = absurd (subst T (sym (ap isNan p) ∙ h) tt)
 
-  settled-inward : nonzeroBounds (range (eachAxis upperOf a b) (eachAxis lowerOf c d)) ≡ true
-      → range (eachAxis upperOf a b) (eachAxis lowerOf c d) ≡ range (eachAxis maxOf a b) (eachAxis minOf c d)
-  settled-inward = all-settled (range (eachAxis upperOf a b) (eachAxis lowerOf c d)) (range (eachAxis maxOf a b) (eachAxis minOf c d))
-      (near-max (a .x) (b .x)) (near-max (a .y) (b .y)) (near-max (a .z) (b .z)) (near-min (c .x) (d .x)) (near-min (c .y) (d .y)) (near-min (c .z) (d .z))
+nan-after : (x : Float) → x ⊕ nan ≡ nan
+unfolding add
+nan-after nan = refl
+nan-after (inf s) = refl
+nan-after (fin s m e) = refl
 
--- ---- sums
+nan-before : (y : Float) → nan ⊕ y ≡ nan
+unfolding add
+nan-before y = refl
 
-sum-near : (rough fine : Float → Float → Float) → ((x y : Float) → Near (rough x y) (fine x y)) → (r : Range3d) (column : Vec3d) (from : Float)
-    → Near (reach rough r column from) (reach fine r column from)
-unfolding reach sumFrom
-sum-near rough fine N r column from = near-add binary64 (near-add binary64 (near-add binary64 (equal refl) (term 0)) (term 1)) (term 2)
-  where
-    term : (i : ℕ) → Near (rough (axis (r .min) i ⊗ axis column i) (axis (r .max) i ⊗ axis column i)) (fine (axis (r .min) i ⊗ axis column i) (axis (r .max) i ⊗ axis column i))
-    term i = N (axis (r .min) i ⊗ axis column i) (axis (r .max) i ⊗ axis column i)
+-- a zero of either sign, added to another number than -0
+either-zero : (x : Float) (s t : Bool) (e d : ℤ) → Value x → (x ≡ zeroOf true → ⊥) → x ⊕ fin s zero e ≡ x ⊕ fin t zero d
+unfolding add
+either-zero nan s t e d v n = refl
+either-zero (inf r) s t e d v n = refl
+either-zero (fin true zero i) s t e d v n = absurd (n (is-zero true 0 i v refl))
+either-zero (fin false zero i) s t e d v n = both-zeros binary64 false s i e ∙ sym (both-zeros binary64 false t i d)
+either-zero (fin r (suc m) i) s t e d v n = number-before binary64 r s m i e ∙ sym (number-before binary64 r t m i d)
 
-settled-moved : (r : Range3d) (m : Mat4d) → nonzeroBounds (range (reached lowerOf r m) (reached upperOf r m)) ≡ true
-    → range (reached lowerOf r m) (reached upperOf r m) ≡ range (reached minOf r m) (reached maxOf r m)
-settled-moved r m = all-settled (range (reached lowerOf r m) (reached upperOf r m)) (range (reached minOf r m) (reached maxOf r m)) (low 0) (low 1) (low 2) (high 0) (high 1) (high 2)
-  where
-    low : (j : ℕ) → Near (reach lowerOf r (column m j) (entry m 3 j)) (reach minOf r (column m j) (entry m 3 j))
-    low j = sum-near lowerOf minOf near-min r (column m j) (entry m 3 j)
+kept-add : {x x' y y' : Float} → Value x → Value y → Kept x x' → Near y y' → Kept (x ⊕ y) (x' ⊕ y')
+kept-add {x} {x'} {y} {y'} v w (lost p) g = lost (ap (λ (z : Float). z ⊕ y) p ∙ nan-before y)
+kept-add {x} {x'} {y} {y'} v w (kept p n) (nothing q) = lost (ap (λ (z : Float). x ⊕ z) q ∙ nan-after x)
+kept-add {x} {x'} {y} {y'} v w (kept p n) (equal q) = kept (ap₂ _⊕_ p q) (λ h. n (negative-zero-sum x y v w .0 h .0))
+kept-add {x} {x'} {y} {y'} v w (kept p n) (zeros s t e d q r) =
+    kept (ap (λ (z : Float). x ⊕ z) q ∙ either-zero x s t e d v n ∙ ap₂ _⊕_ p (sym r)) (λ h. n (negative-zero-sum x y v w .0 h .0))
 
-    high : (j : ℕ) → Near (reach upperOf r (column m j) (entry m 3 j)) (reach maxOf r (column m j) (entry m 3 j))
-    high j = sum-near upperOf maxOf near-max r (column m j) (entry m 3 j)
+-- ---- a sum of choices
 
--- ---- as the code finds them
+one-value : (b : Bool) (x y : Float) → Value x → Value y → Value (cond b y x)
+one-value true x y v w = w
+one-value false x y v w = v
 
-pub found-outward : (a b r : Range3d) (t : Bool) → r ≡ range (eachAxis lowerOf (a .min) (b .min)) (eachAxis upperOf (a .max) (b .max))
-    → t ≡ nonzeroBounds r → t ≡ true → r ≡ joined a b
-found-outward a b r t g s h = g ∙ settled-outward (a .min) (b .min) (a .max) (b .max) (ap nonzeroBounds (sym g) ∙ sym s ∙ h)
+module _ (rough fine : Float → Float → Float) (near : (x y : Float) → Near (rough x y) (fine x y)) (value : (x y : Float) → Value x → Value y → Value (rough x y))
+    (r : Range3d) (along : Vec3d) (from : Float) (v : Value from) (n : from ≡ zeroOf true → ⊥) where
+  abbrev term : ℕ → Float
+  term i = rough (axis (r .min) i ⊗ axis along i) (axis (r .max) i ⊗ axis along i)
 
-pub found-inward : (a b : Range3d) (low high : Vec3d) (t : Bool) → t ≡ nonzeroBounds (range low high) → t ≡ true
-    → low ≡ eachAxis upperOf (a .min) (b .min) → high ≡ eachAxis lowerOf (a .max) (b .max) → range low high ≡ intersection a b
-found-inward a b low high t s h p q = same-range p q ∙ settled-inward (a .min) (b .min) (a .max) (b .max) (ap nonzeroBounds (sym (same-range p q)) ∙ sym s ∙ h)
+  term-value : (i : ℕ) → Value (term i)
+  term-value i = value _ _ (mul-fits binary64 (axis (r .min) i) (axis along i)) (mul-fits binary64 (axis (r .max) i) (axis along i))
 
-pub found-moved : (r : Range3d) (m : Mat4d) (low high : Vec3d) (t : Bool) → t ≡ nonzeroBounds (range low high) → t ≡ true
-    → low ≡ reached lowerOf r m → high ≡ reached upperOf r m → range low high ≡ range (reached minOf r m) (reached maxOf r m)
-found-moved r m low high t s h p q = same-range p q ∙ settled-moved r m (ap nonzeroBounds (sym (same-range p q)) ∙ sym s ∙ h)
+  term-near : (i : ℕ) → Near (term i) (fine (axis (r .min) i ⊗ axis along i) (axis (r .max) i ⊗ axis along i))
+  term-near i = near (axis (r .min) i ⊗ axis along i) (axis (r .max) i ⊗ axis along i)
+
+  sum-kept : Kept (reach rough r along from) (reach fine r along from)
+  unfolding reach sumFrom
+  sum-kept =
+      kept-add (add-fits binary64 (from ⊕ term 0) (term 1)) (term-value 2)
+      (kept-add (add-fits binary64 from (term 0)) (term-value 1) (kept-add v (term-value 0) (kept refl n) (term-near 0)) (term-near 1)) (term-near 2)
+
+-- ---- a moved range
+
+pub no-negative-zero : (x : Float) → noNegativeZero x ≡ true → x ≡ zeroOf true → ⊥
+unfolding toBits
+no-negative-zero x h e = subst T (sym h ∙ ap (λ (z : Float). not (eqb (toBits binary64 z) (2 ^ 63))) e) tt
+
+module _ (r : Range3d) (m : Mat4d) (j : ℕ) (v : Value (entry m 3 j)) (n : noNegativeZero (entry m 3 j) ≡ true)
+    (k : numbersAlong (range (vec3 (λ i. reach lowerOf r (column m j) (entry m 3 j))) (vec3 (λ i. reach upperOf r (column m j) (entry m 3 j)))) 0 ≡ true) where
+  found : Numbers (reach lowerOf r (column m j) (entry m 3 j)) (reach upperOf r (column m j) (entry m 3 j))
+  found = are-numbers _ _ k
+
+  low : reach lowerOf r (column m j) (entry m 3 j) ≡ reach minOf r (column m j) (entry m 3 j)
+  low = settles (sum-kept lowerOf minOf near-min (λ x y. one-value (lt y x) x y) r (column m j) (entry m 3 j) v (no-negative-zero (entry m 3 j) n)) (found .0)
+
+  high : reach upperOf r (column m j) (entry m 3 j) ≡ reach maxOf r (column m j) (entry m 3 j)
+  high = settles (sum-kept upperOf maxOf near-max (λ x y. one-value (lt x y) x y) r (column m j) (entry m 3 j) v (no-negative-zero (entry m 3 j) n)) (found .1)
+
+module _ (r : Range3d) (m : Mat4d) where
+  abbrev rough : Range3d
+  rough = range (reached lowerOf r m) (reached upperOf r m)
+
+  settled-moved : (told : Bool) → Settling told rough (translation m) → told ≡ true → rough ≡ range (reached minOf r m) (reached maxOf r m)
+  unfolding settled
+  settled-moved told s h =
+      let t = translation m in
+      let all = both-hold (numbersAlong rough 0 && numbersAlong rough 1 && numbersAlong rough 2) (noNegativeZeros t) (sym (s .is) ∙ h) in
+      let a = both-hold (numbersAlong rough 0 && numbersAlong rough 1) (numbersAlong rough 2) (all .0) in
+      let b = both-hold (numbersAlong rough 0) (numbersAlong rough 1) (a .0) in
+      let c = both-hold (noNegativeZero (t .x) && noNegativeZero (t .y)) (noNegativeZero (t .z)) (all .1) in
+      let d = both-hold (noNegativeZero (t .x)) (noNegativeZero (t .y)) (c .0) in
+      let v = s .values h in
+      same-range (same-vec3 (low r m 0 (v .0) (d .0) (b .0)) (low r m 1 (v .1) (d .1) (b .1)) (low r m 2 (v .2) (c .1) (a .1)))
+      (same-vec3 (high r m 0 (v .0) (d .0) (b .0)) (high r m 1 (v .1) (d .1) (b .1)) (high r m 2 (v .2) (c .1) (a .1)))
+
+-- ---- as the code finds it
+
+pub found-moved : (r : Range3d) (m : Mat4d) (least greatest t : Vec3d) (told : Bool) → Settling told (range least greatest) t → told ≡ true → t ≡ translation m
+    → least ≡ reached lowerOf r m → greatest ≡ reached upperOf r m → range least greatest ≡ range (reached minOf r m) (reached maxOf r m)
+found-moved r m least greatest t told s h e p q =
+    same-range p q
+    ∙ settled-moved r m told (subst (λ (u : Vec3d). Settling told (rough r m) u) e (subst (λ (f : Range3d). Settling told f t) (same-range p q) s)) h

@@ -1,10 +1,10 @@
 // Boxes along the axes, each from a least to a greatest corner.
 ghost use mathlib.Core.Path.{_≡_};
-ghost use mathlib.Core.Bool.{cond};
-ghost use Rattle.matrix.specs.Vec.{axis4, vec3, eachAxis};
+ghost use mathlib.Core.Bool.{cond, _&&_};
+ghost use Rattle.matrix.specs.Vec.{axis4, vec3};
 ghost use Rattle.matrix.specs.Range.{range, rangeOf, bounds, empty, isEmpty, joined, union, intersection, size, midpoint, spanDistanceSquared, distanceSquared, reach, reached, transformed, corner, corners};
 ghost use Rattle.matrix.specs.Matrix.{product};
-ghost use Rattle.matrix.specs.Steps.{nonzeroBounds};
+ghost use Rattle.matrix.specs.Steps.{NumbersAlong, bothNumbers, allNumbers, allOrdered, Settling};
 ghost use Rattle.number.specs.Arithmetic.{lowerOf, upperOf, minOf, maxOf};
 ghost use Rattle.number.specs.Slice.{stored};
 use crate::matrix::Mat4d;
@@ -41,6 +41,13 @@ fn pick(from_max: bool, min: f64, max: f64) -> f64
         return max;
     }
     min
+}
+
+// Neither is a NaN.
+fn are_numbers(x: f64, y: f64) -> bool
+    ensures { λ r. ⌜ r ≡ bothNumbers x y ⌝ }
+{
+    (x == x) & (y == y)
 }
 
 impl Range3d {
@@ -82,13 +89,43 @@ impl Range3d {
         self.min.z > self.max.z
     }
 
-    // None of its numbers is a zero or a NaN: where one is, so is their product.
-    pub(crate) fn has_nonzero_bounds(self) -> bool
-        ensures { λ r. ⌜ r ≡ nonzeroBounds self ⌝ }
+    // Whether along each axis the least is at most the greatest: not empty, and without a NaN.
+    fn is_ordered(self) -> bool
+        ensures { λ r. ⌜ r ≡ allOrdered self ⌝ }
     {
-        order::is_nonzero(
-            self.min.x * self.max.x * (self.min.y * self.max.y) * (self.min.z * self.max.z),
-        )
+        if !(self.min.x <= self.max.x) {
+            return false;
+        }
+        if !(self.min.y <= self.max.y) {
+            return false;
+        }
+        self.min.z <= self.max.z
+    }
+
+    // Whether both of two ranges are so.
+    pub(crate) fn are_ordered(self, other: Range3d) -> bool
+        ensures { λ r. ⌜ r ≡ (allOrdered self && allOrdered other) ⌝ }
+    {
+        if !self.is_ordered() {
+            return false;
+        }
+        other.is_ordered()
+    }
+
+    // Whether neither of two ranges has a NaN. z goes first, each by itself: so the compiler takes x and y of both at once.
+    fn are_numbers(self, other: Range3d) -> bool
+        ensures { λ r. ⌜ r ≡ allNumbers self other ⌝ }
+    {
+        if !are_numbers(self.min.z, self.max.z) {
+            return false;
+        }
+        if !are_numbers(other.min.z, other.max.z) {
+            return false;
+        }
+        are_numbers(self.min.x, self.max.x)
+            & are_numbers(self.min.y, self.max.y)
+            & are_numbers(other.min.x, other.max.x)
+            & are_numbers(other.min.y, other.max.y)
     }
 
     // The union of two ranges that are not empty, with a NaN passed over and the sign of a zero.
@@ -113,13 +150,14 @@ impl Range3d {
         self.joined(other)
     }
 
-    // The union of two ranges that are not empty, by one comparison for each number: settled where none is a zero or a NaN.
-    pub(crate) fn outward(self, other: Range3d) -> Range3d
-        ensures { λ r. ⌜ r ≡ range (eachAxis lowerOf (self .min) (other .min)) (eachAxis upperOf (self .max) (other .max)) ⌝ }
+    // The same of ranges without a NaN.
+    pub(crate) fn joined_numbers(self, other: Range3d) -> Range3d
+        requires { ⌜ NumbersAlong (self .min) (other .min) × NumbersAlong (self .max) (other .max) ⌝ }
+        ensures { λ r. ⌜ r ≡ joined self other ⌝ }
     {
         Range3d {
-            min: self.min.lower(other.min),
-            max: self.max.upper(other.max),
+            min: self.min.lesser(other.min),
+            max: self.max.greater(other.max),
         }
     }
 
@@ -138,12 +176,11 @@ impl Range3d {
     pub fn intersection(self, other: Range3d) -> Range3d
         ensures { λ r. ⌜ r ≡ intersection self other ⌝ }
     {
-        let found = Range3d {
-            min: self.min.upper(other.min),
-            max: self.max.lower(other.max),
-        };
-        if found.has_nonzero_bounds() {
-            return found;
+        if self.are_numbers(other) {
+            return Range3d {
+                min: self.min.greater(other.min),
+                max: self.max.lesser(other.max),
+            };
         }
         self.corners_swapped()
             .joined(other.corners_swapped())
@@ -209,8 +246,7 @@ impl Range3d {
             + order::upper(self.min.z * column.z, self.max.z * column.z)
     }
 
-    // The corners of the range that holds this one once the matrix is applied to it, by one comparison for each choice: settled where no number is a zero
-    // or a NaN.
+    // The corners of the range that holds this one once the matrix is applied to it, by one comparison for each choice.
     pub(crate) fn transformed_min(self, matrix: Mat4d) -> Vec3d
         ensures { λ r. ⌜ r ≡ reached lowerOf self matrix ⌝ }
     {
@@ -231,6 +267,19 @@ impl Range3d {
             y: self.highest(columns.r1),
             z: self.highest(columns.r2),
         }
+    }
+
+    // Whether the corners so found are those with a NaN passed over and the sign of a zero: none of their numbers is a NaN, and no number of the translation, from
+    // which the sums start, is -0. A zero that is added to any other number leaves no sign.
+    pub(crate) fn is_settled(self, translation: Vec3d) -> bool
+        ensures { λ r. ⌜ Settling r self translation ⌝ }
+    {
+        if !(are_numbers(self.min.x, self.max.x)
+            & are_numbers(self.min.y, self.max.y)
+            & are_numbers(self.min.z, self.max.z)) {
+            return false;
+        }
+        translation.has_no_negative_zero()
     }
 
     // The range with those corners, with a NaN passed over and the sign of a zero.
@@ -263,8 +312,18 @@ impl Range3d {
             min: self.transformed_min(matrix),
             max: self.transformed_max(matrix),
         };
-        if found.has_nonzero_bounds() {
+        if found.is_settled(matrix.extract_translation()) {
             return found;
+        }
+        self.transformed_signed(matrix)
+    }
+
+    // The same without the way by one comparison, for what is seldom asked: `transformed` has one caller then, into which the compiler puts it.
+    pub fn transformed_seldom(self, matrix: Mat4d) -> Range3d
+        ensures { λ r. ⌜ r ≡ transformed self matrix ⌝ }
+    {
+        if self.is_empty() {
+            return self;
         }
         self.transformed_signed(matrix)
     }
@@ -286,7 +345,7 @@ impl Range3d {
             min: self.transformed_min(matrix),
             max: self.transformed_max(matrix),
         };
-        if found.has_nonzero_bounds() {
+        if found.is_settled(matrix.extract_translation()) {
             return found;
         }
         self.transformed_signed(matrix)
@@ -297,17 +356,10 @@ impl Range3d {
         ensures { λ r. ⌜ r ≡ union self (transformed other (product left right)) ⌝ }
     {
         let moved = other.transformed_by_product(left, right);
-        if self.is_empty() {
-            return moved;
+        if self.are_ordered(moved) {
+            return self.joined_numbers(moved);
         }
-        if moved.is_empty() {
-            return self;
-        }
-        let found = self.outward(moved);
-        if found.has_nonzero_bounds() {
-            return found;
-        }
-        self.joined(moved)
+        self.union(moved)
     }
 
     // The corner i, of eight: the maximum along each axis whose bit is set in i.

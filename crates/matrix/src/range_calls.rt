@@ -50,20 +50,11 @@ pub fn union(a: &[f64], b: &[f64], out: &mut [f64]) -> Written
     }
     let first = Range3d::load(a);
     let second = Range3d::load(b);
-    if first.is_empty() {
-        second.store(out);
+    if first.are_ordered(second) {
+        first.joined_numbers(second).store(out);
         return Written::Done;
     }
-    if second.is_empty() {
-        first.store(out);
-        return Written::Done;
-    }
-    let found = first.outward(second);
-    if found.has_nonzero_bounds() {
-        found.store(out);
-        return Written::Done;
-    }
-    first.joined(second).store(out);
+    first.union(second).store(out);
     Written::Done
 }
 
@@ -134,7 +125,7 @@ pub fn transformed(range: &[f64], m: &[f64], out: &mut [f64]) -> Written
         min: given.transformed_min(matrix),
         max: given.transformed_max(matrix),
     };
-    if found.has_nonzero_bounds() {
+    if found.is_settled(matrix.extract_translation()) {
         found.store(out);
         return Written::Done;
     }

@@ -1,9 +1,11 @@
 // Row vectors of three numbers, and of four where a point is homogeneous.
 ghost use mathlib.Core.Path.{_≡_};
-ghost use Rattle.matrix.specs.Vec.{sum, difference, multiple, multiple4, dot, cross, lengthOf, unit, normalized, least, greatest, vec3, vec4, vec3Of, vec4Of, coordinates, coordinates4, eachAxis};
-ghost use Rattle.number.specs.Arithmetic.{lowerOf, upperOf};
+ghost use Rattle.matrix.specs.Vec.{sum, difference, multiple, multiple4, dot, cross, lengthOf, unit, normalized, least, greatest, vec3, vec4, vec3Of, vec4Of, coordinates, coordinates4};
+ghost use Rattle.matrix.specs.Steps.{Numbers, NumbersAlong, noNegativeZeros, Values};
+ghost use Rattle.number.specs.Arithmetic.{minOf, maxOf};
 ghost use Prim.Native.Nat.{_+_};
 ghost use Rattle.number.specs.Slice.{at, stored};
+use number::format::to_bits;
 use number::order;
 use number::root::sqrt;
 use number::slice;
@@ -23,6 +25,22 @@ pub struct Vec4d {
     pub y: f64,
     pub z: f64,
     pub w: f64,
+}
+
+// The smaller and the larger of two numbers that are no NaNs, without a branch: chosen in either order they differ between two zeros alone, whose sign "or" makes
+// negative where either is, and "and" positive.
+fn lesser(x: f64, y: f64) -> f64
+    requires { ⌜ Numbers x y ⌝ }
+    ensures { λ r. ⌜ r ≡ minOf x y ⌝ }
+{
+    f64::from_bits(f64::to_bits(order::lower(x, y)) | f64::to_bits(order::lower(y, x)))
+}
+
+fn greater(x: f64, y: f64) -> f64
+    requires { ⌜ Numbers x y ⌝ }
+    ensures { λ r. ⌜ r ≡ maxOf x y ⌝ }
+{
+    f64::from_bits(f64::to_bits(order::upper(x, y)) & f64::to_bits(order::upper(y, x)))
 }
 
 impl Vec3d {
@@ -94,25 +112,36 @@ impl Vec3d {
         }
     }
 
-    // The same by one comparison for each axis.
-    pub(crate) fn lower(self, other: Vec3d) -> Vec3d
-        ensures { λ r. ⌜ r ≡ eachAxis lowerOf self other ⌝ }
+    // The same of vectors without a NaN.
+    pub(crate) fn lesser(self, other: Vec3d) -> Vec3d
+        requires { ⌜ NumbersAlong self other ⌝ }
+        ensures { λ r. ⌜ r ≡ least self other ⌝ }
     {
         Vec3d {
-            x: order::lower(self.x, other.x),
-            y: order::lower(self.y, other.y),
-            z: order::lower(self.z, other.z),
+            x: lesser(self.x, other.x),
+            y: lesser(self.y, other.y),
+            z: lesser(self.z, other.z),
         }
     }
 
-    pub(crate) fn upper(self, other: Vec3d) -> Vec3d
-        ensures { λ r. ⌜ r ≡ eachAxis upperOf self other ⌝ }
+    pub(crate) fn greater(self, other: Vec3d) -> Vec3d
+        requires { ⌜ NumbersAlong self other ⌝ }
+        ensures { λ r. ⌜ r ≡ greatest self other ⌝ }
     {
         Vec3d {
-            x: order::upper(self.x, other.x),
-            y: order::upper(self.y, other.y),
-            z: order::upper(self.z, other.z),
+            x: greater(self.x, other.x),
+            y: greater(self.y, other.y),
+            z: greater(self.z, other.z),
         }
+    }
+
+    // Whether none of its numbers is -0.
+    pub(crate) fn has_no_negative_zero(self) -> bool
+        ensures { λ r. ⌜ (r ≡ noNegativeZeros self) × Values self ⌝ }
+    {
+        (to_bits(self.x) != 0x8000_0000_0000_0000)
+            & (to_bits(self.y) != 0x8000_0000_0000_0000)
+            & (to_bits(self.z) != 0x8000_0000_0000_0000)
     }
 
     pub fn length(self) -> f64

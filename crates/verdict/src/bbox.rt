@@ -161,7 +161,9 @@ impl BBox3d {
         ensures { λ r. ⌜ r ≡ aligned self other ⌝ }
     {
         BBox3d {
-            range: self.aligned_range().union(other.aligned_range()),
+            range: self.range
+                .transformed_seldom(self.matrix)
+                .union(other.range.transformed_seldom(other.matrix)),
             matrix: Mat4d::IDENTITY,
             flag: false,
         }

@@ -28,7 +28,8 @@ returns-5 c =
     let stored = c .before .before in
     let tested = stored .before .before in
     let settled = tested .before in
-    let greatest = settled .before in
+    let start = settled .before in
+    let greatest = start .before in
     let least = greatest .before in
     let full = least .before in
     let second = full .before .before in
@@ -37,7 +38,7 @@ returns-5 c =
     written _ _ _ _ _ _ (both (eq-eqb _ _ (tests .before .before .if1 .left)) (eq-eqb _ _ (tests .before .if2 .left))) (tests .if3 .left) refl (stored .store2 .ensures)
     (ap write (ap bounds
     (moves _ _ _ (full .before .is-empty .ensures) _ (full .if4 .left)
-    (found-moved _ (second .load2 .result) _ _ _ (settled .has-nonzero-bounds .ensures) (tested .if5 .taken) (least .transformed-min .ensures) (greatest .transformed-max .ensures))
+    (found-moved _ (second .load2 .result) _ _ _ _ (settled .is-settled .ensures) (tested .if5 .taken) (start .extract-translation .ensures) (least .transformed-min .ensures) (greatest .transformed-max .ensures))
     ∙ ap₂ transformed (first .load .ensures) (second .load2 .ensures))))
 
 returns-6 : tie.Need-returns-6
@@ -45,7 +46,7 @@ unfolding transformedCall
 returns-6 c =
     let stored = c .before .before in
     let signed = stored .before .before in
-    let full = signed .before .before .before .before .before in
+    let full = signed .before .before .before .before .before .before in
     let second = full .before .before in
     let first = second .before in
     let tests = first .before in
@@ -62,4 +63,4 @@ transformed-spec =
     (λ c. no-input _ _ _ _ (both (ne-eqb _ _ (c .if1 .taken)) refl))
     (λ c. no-input _ _ _ _ (both (eq-eqb _ _ (c .before .if1 .left)) (ne-eqb _ _ (c .if2 .taken))))
     (λ c. no-room _ _ _ _ (both (eq-eqb _ _ (c .before .before .if1 .left)) (eq-eqb _ _ (c .before .if2 .left))) (c .if3 .taken))
-    (λ c κs. tt) (λ c κs. tt) (λ c κs. tt) (λ c κs. tt) (λ c. search needs) returns-4 (λ c κs. tt) (λ c κs. tt) (λ c κs. tt) (λ c κs. tt) (λ c. search needs) returns-5 (λ c κs. tt) (λ c κs. tt) (λ c. search needs) returns-6)
+    (λ c κs. tt) (λ c κs. tt) (λ c κs. tt) (λ c κs. tt) (λ c. search needs) returns-4 (λ c κs. tt) (λ c κs. tt) (λ c κs. tt) (λ c κs. tt) (λ c κs. tt) (λ c. search needs) returns-5 (λ c κs. tt) (λ c κs. tt) (λ c. search needs) returns-6)

@@ -16,7 +16,7 @@ joined a b r s u m p q e = rw (e, p, q)
 returns : tie.Need-returns
 returns c =
     let a = c .before .before .before .args in
-    rw (zero-bits, one-bits) (joined (a .self) (a .other) _ _ _ _ (c .before .before .aligned-range .ensures) (c .before .aligned-range2 .ensures) (c .union .ensures))
+    rw (zero-bits, one-bits) (joined (a .self) (a .other) _ _ _ _ (c .before .before .transformed-seldom .ensures) (c .before .transformed-seldom2 .ensures) (c .union .ensures))
 
 pub aligned-with-spec : {M : Type 1} → statement M
 aligned-with-spec = tie.close (tie.spec (λ c κs. tt) (λ c κs. tt) (λ c κs. tt) returns)
