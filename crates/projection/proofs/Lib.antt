@@ -1,4 +1,5 @@
 -- The laws that the proofs of this crate cite.
 pub mod Literals
 pub mod Recovery
+pub mod Confirmed
 pub mod Worked

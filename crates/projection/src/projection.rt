@@ -134,26 +134,72 @@ fn close(given: f64, built: f64) -> bool
     is_finite(given) & is_finite(built) & near
 }
 
-// Whether each of its numbers is.
-fn close_to(given: Mat4d, built: Mat4d) -> bool
-    ensures { λ r. ⌜ r ≡ closeTo given built ⌝ }
+// Whether a volume, seen in perspective, gives a matrix back. Most numbers of what is built are known here, and the compiler leaves out what follows from them.
+fn gives_perspective(volume: ProjectionParams, matrix: Mat4d) -> bool
+    ensures { λ r. ⌜ r ≡ closeTo matrix (perspective volume) ⌝ }
 {
-    close(given.r0.x, built.r0.x)
-        & close(given.r0.y, built.r0.y)
-        & close(given.r0.z, built.r0.z)
-        & close(given.r0.w, built.r0.w)
-        & close(given.r1.x, built.r1.x)
-        & close(given.r1.y, built.r1.y)
-        & close(given.r1.z, built.r1.z)
-        & close(given.r1.w, built.r1.w)
-        & close(given.r2.x, built.r2.x)
-        & close(given.r2.y, built.r2.y)
-        & close(given.r2.z, built.r2.z)
-        & close(given.r2.w, built.r2.w)
-        & close(given.r3.x, built.r3.x)
-        & close(given.r3.y, built.r3.y)
-        & close(given.r3.z, built.r3.z)
-        & close(given.r3.w, built.r3.w)
+    let built = volume.perspective();
+    close(matrix.r0.x, built.r0.x)
+        & close(matrix.r0.y, built.r0.y)
+        & close(matrix.r0.z, built.r0.z)
+        & close(matrix.r0.w, built.r0.w)
+        & close(matrix.r1.x, built.r1.x)
+        & close(matrix.r1.y, built.r1.y)
+        & close(matrix.r1.z, built.r1.z)
+        & close(matrix.r1.w, built.r1.w)
+        & close(matrix.r2.x, built.r2.x)
+        & close(matrix.r2.y, built.r2.y)
+        & close(matrix.r2.z, built.r2.z)
+        & close(matrix.r2.w, built.r2.w)
+        & close(matrix.r3.x, built.r3.x)
+        & close(matrix.r3.y, built.r3.y)
+        & close(matrix.r3.z, built.r3.z)
+        & close(matrix.r3.w, built.r3.w)
+}
+
+// Whether a volume, seen along parallels, gives a matrix back. Most numbers of what is built are known here, and the compiler leaves out what follows from them.
+fn gives_orthographic(volume: ProjectionParams, matrix: Mat4d) -> bool
+    ensures { λ r. ⌜ r ≡ closeTo matrix (orthographic volume) ⌝ }
+{
+    let built = volume.orthographic();
+    close(matrix.r0.x, built.r0.x)
+        & close(matrix.r0.y, built.r0.y)
+        & close(matrix.r0.z, built.r0.z)
+        & close(matrix.r0.w, built.r0.w)
+        & close(matrix.r1.x, built.r1.x)
+        & close(matrix.r1.y, built.r1.y)
+        & close(matrix.r1.z, built.r1.z)
+        & close(matrix.r1.w, built.r1.w)
+        & close(matrix.r2.x, built.r2.x)
+        & close(matrix.r2.y, built.r2.y)
+        & close(matrix.r2.z, built.r2.z)
+        & close(matrix.r2.w, built.r2.w)
+        & close(matrix.r3.x, built.r3.x)
+        & close(matrix.r3.y, built.r3.y)
+        & close(matrix.r3.z, built.r3.z)
+        & close(matrix.r3.w, built.r3.w)
+}
+
+// The volume that a matrix projects as a perspective, if that gives the matrix back.
+fn perspective_from(matrix: Mat4d) -> Recovered
+    ensures { λ r. ⌜ r ≡ confirmed (perspectiveOf matrix) matrix ⌝ }
+{
+    let volume = perspective_of(matrix);
+    if volume.bounded() & gives_perspective(volume, matrix) {
+        return Recovered::Params(volume);
+    }
+    Recovered::NotAProjection
+}
+
+// The volume that a matrix projects as an orthographic projection, if that gives the matrix back.
+fn orthographic_from(matrix: Mat4d) -> Recovered
+    ensures { λ r. ⌜ r ≡ confirmed (orthographicOf matrix) matrix ⌝ }
+{
+    let volume = orthographic_of(matrix);
+    if volume.bounded() & gives_orthographic(volume, matrix) {
+        return Recovered::Params(volume);
+    }
+    Recovered::NotAProjection
 }
 
 impl ProjectionParams {
@@ -250,25 +296,15 @@ impl ProjectionParams {
             & is_finite(self.far)
     }
 
-    // This volume, if it gives the matrix back.
-    fn confirmed(self, matrix: Mat4d) -> Recovered
-        ensures { λ r. ⌜ r ≡ confirmed self matrix ⌝ }
-    {
-        if self.bounded() & close_to(matrix, self.matrix()) {
-            return Recovered::Params(self);
-        }
-        Recovered::NotAProjection
-    }
-
     // The volume that a matrix projects.
     pub fn from_matrix(matrix: Mat4d) -> Recovered
         ensures { λ r. ⌜ r ≡ recovered matrix ⌝ }
     {
         if abs(matrix.r2.w + 1.0) < TOLERANCE {
-            return perspective_of(matrix).confirmed(matrix);
+            return perspective_from(matrix);
         }
         if abs(matrix.r2.w) < TOLERANCE {
-            return orthographic_of(matrix).confirmed(matrix);
+            return orthographic_from(matrix);
         }
         Recovered::NotAProjection
     }

@@ -8,7 +8,6 @@ use Rattle.matrix.specs.Matrix.{entry}
 use Rattle.matrix.specs.Constants.{one}
 use Rattle.matrix.proofs.Literals.{one-bits}
 use Rattle.projection.proofs.Literals.{tolerance-bits}
-use Rattle.projection.specs.declared.projection.ProjectionParams.{ProjectionParams}
 use Rattle.projection.specs.declared.projection.Recovered.{Recovered}
 use Rattle.projection.specs.declared.projection.Recovered.the-variants.{NotAProjection}
 use Rattle.projection.specs.Projection.{perspectiveOf, orthographicOf, confirmed, recovered}
@@ -19,19 +18,17 @@ module _ (m : Mat4d) (a : Float) (h : a ≡ absOf (entry m 2 3 ⊕ ofBits binary
   turned : a ≡ absOf (entry m 2 3 ⊕ one)
   turned = rw one-bits at h
 
-  first : (p : ProjectionParams) (r : Recovered) → lt a (ofBits binary64 0x3eb0_c6f7_a0b5_ed8d) ≡ true → p ≡ perspectiveOf m → r ≡ confirmed p m
-      → r ≡ recovered m
+  first : (r : Recovered) → lt a (ofBits binary64 0x3eb0_c6f7_a0b5_ed8d) ≡ true → r ≡ confirmed (perspectiveOf m) m → r ≡ recovered m
   unfolding recovered
-  first p r t i j = let u = rw (tolerance-bits, turned) at t in rw (j, i, u)
+  first r t j = let u = rw (tolerance-bits, turned) at t in rw (j, u)
 
   module _ (t : lt a (ofBits binary64 0x3eb0_c6f7_a0b5_ed8d) ≡ false) (b : Float) (k : b ≡ absOf (entry m 2 3)) where
-    second : (p : ProjectionParams) (r : Recovered) → lt b (ofBits binary64 0x3eb0_c6f7_a0b5_ed8d) ≡ true → p ≡ orthographicOf m → r ≡ confirmed p m
-        → r ≡ recovered m
+    second : (r : Recovered) → lt b (ofBits binary64 0x3eb0_c6f7_a0b5_ed8d) ≡ true → r ≡ confirmed (orthographicOf m) m → r ≡ recovered m
     unfolding recovered
-    second p r v i j =
+    second r v j =
         let u = rw (tolerance-bits, turned) at t in
         let w = rw (tolerance-bits, k) at v in
-        rw (j, i, u, w)
+        rw (j, u, w)
 
     neither : lt b (ofBits binary64 0x3eb0_c6f7_a0b5_ed8d) ≡ false → NotAProjection ≡ recovered m
     unfolding recovered
@@ -42,15 +39,14 @@ module _ (m : Mat4d) (a : Float) (h : a ≡ absOf (entry m 2 3 ⊕ ofBits binary
 
 returns : tie.Need-returns
 returns c =
-    let tested = c .before .before in
-    first _ _ (tested .before .abs .ensures) _ _ (tested .if1 .taken) (c .before .perspective-of .ensures) (c .confirmed .ensures)
+    let tested = c .before in
+    first _ _ (tested .before .abs .ensures) _ (tested .if1 .taken) (c .perspective-from .ensures)
 
 returns-2 : tie.Need-returns-2
 returns-2 c =
-    let tested = c .before .before in
+    let tested = c .before in
     let left = tested .before .before in
-    second _ _ (left .before .abs .ensures) (left .if1 .left) _ (tested .before .abs2 .ensures) _ _ (tested .if2 .taken) (c .before .orthographic-of .ensures)
-    (c .confirmed2 .ensures)
+    second _ _ (left .before .abs .ensures) (left .if1 .left) _ (tested .before .abs2 .ensures) _ (tested .if2 .taken) (c .orthographic-from .ensures)
 
 returns-3 : tie.Need-returns-3
 returns-3 c =
@@ -58,4 +54,4 @@ returns-3 c =
     neither _ _ (left .before .abs .ensures) (left .if1 .left) _ (c .before .abs2 .ensures) (c .if2 .left)
 
 pub from-matrix-spec : {M : Type 1} → statement M
-from-matrix-spec = tie.close (tie.spec (λ c κs. tt) (λ c κs. tt) (λ c κs. tt) returns (λ c κs. tt) (λ c κs. tt) (λ c κs. tt) returns-2 returns-3)
+from-matrix-spec = tie.close (tie.spec (λ c κs. tt) (λ c κs. tt) returns (λ c κs. tt) (λ c κs. tt) returns-2 returns-3)

@@ -1,0 +1,37 @@
+-- `projection::gives_orthographic` meets its contract: number by number by that of `close`. Assumes nothing.
+use mathlib.Core.Path.{_≡_, ap, _∙_}
+use mathlib.Core.Bool.{Bool, _&&_}
+use Rattle.number.specs.Every.{everyBelow}
+use Rattle.matrix.specs.declared.matrix.Mat4d.{Mat4d}
+use Rattle.projection.specs.Projection.{closeTo}
+use Rattle.projection.proofs.projection.gives_orthographic.Statement.{statement}
+use Rattle.projection.proofs.projection.gives_orthographic.Tie as tie
+
+of-built : (m b w : Mat4d) (k : Bool) → b ≡ w → k ≡ closeTo m b → k ≡ closeTo m w
+of-built m b w k e h = h ∙ ap (closeTo m) e
+
+returns : tie.Need-returns
+unfolding closeTo everyBelow
+returns c =
+    let c14 = c .before in
+    let c13 = c14 .before in
+    let c12 = c13 .before in
+    let c11 = c12 .before in
+    let c10 = c11 .before in
+    let c9 = c10 .before in
+    let c8 = c9 .before in
+    let c7 = c8 .before in
+    let c6 = c7 .before in
+    let c5 = c6 .before in
+    let c4 = c5 .before in
+    let c3 = c4 .before in
+    let c2 = c3 .before in
+    let c1 = c2 .before in
+    let c0 = c1 .before in
+    let built = c0 .before in
+    of-built (built .before .args .matrix) (built .orthographic .result) _ _ (built .orthographic .ensures) (λ t. c0 .close .ensures t && c1 .close2 .ensures t && c2 .close3 .ensures t && c3 .close4 .ensures t && c4 .close5 .ensures t && c5 .close6 .ensures t && c6 .close7 .ensures t && c7 .close8 .ensures t && c8 .close9 .ensures t && c9 .close10 .ensures t && c10 .close11 .ensures t && c11 .close12 .ensures t && c12 .close13 .ensures t && c13 .close14 .ensures t && c14 .close15 .ensures t && c .close16 .ensures t)
+
+pub gives-orthographic-spec : {M : Type 1} → statement M
+gives-orthographic-spec =
+    tie.close
+    (tie.spec (λ c κs. tt) (λ c κs. tt) (λ c κs. tt) (λ c κs. tt) (λ c κs. tt) (λ c κs. tt) (λ c κs. tt) (λ c κs. tt) (λ c κs. tt) (λ c κs. tt) (λ c κs. tt) (λ c κs. tt) (λ c κs. tt) (λ c κs. tt) (λ c κs. tt) (λ c κs. tt) (λ c κs. tt) returns)
