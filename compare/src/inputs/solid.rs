@@ -52,6 +52,18 @@ pub fn ordinary_box(rng: &mut Rng) -> Boxed {
     box_of(ordinary_range(rng), placement(rng), 0.0)
 }
 
+/// An ordinary range whose least z is 0, as a block's on flat land.
+pub fn ground_range(rng: &mut Rng) -> Range {
+    let mut r = ordinary_range(rng);
+    (r[2], r[5]) = (0.0, r[5].abs());
+    r
+}
+
+/// A block on flat land that is surveyed where it stands.
+pub fn ground_box(rng: &mut Rng) -> Boxed {
+    box_of(ground_range(rng), IDENTITY, 0.0)
+}
+
 /// A range of whole numbers that holds points.
 pub fn whole_range(rng: &mut Rng, size: i64) -> Range {
     let a: [i64; 3] = array::from_fn(|_| rng.whole(size));

@@ -85,6 +85,7 @@ fn combine() -> Box<dyn Op> {
     .fixed(pairs)
     .drawn(|_, rng| inputs::two_boxes(rng))
     .timed("placed", |_, rng| (inputs::ordinary_box(rng), inputs::ordinary_box(rng)))
+    .timed("identity, z from 0", |_, rng| (inputs::ground_box(rng), inputs::ground_box(rng)))
     .op()
 }
 
@@ -121,6 +122,7 @@ fn aligned_range() -> Box<dyn Op> {
     .fixed(fixed().into_iter().map(|b| (b,)).collect())
     .drawn(|_, rng| (inputs::boxed(rng),))
     .timed("placed", |_, rng| (inputs::ordinary_box(rng),))
+    .timed("identity, z from 0", |_, rng| (inputs::ground_box(rng),))
     .op()
 }
 

@@ -198,17 +198,22 @@ impl Timed for Group {
         let Some(ours) = &self.ours else {
             return vec![];
         };
-        let boxes: &'static [Boxed] = Timing::inputs(|_, rng| inputs::ordinary_box(rng));
-        let lent: &'static [Ins] = (boxes.chunks(MOST_BOXES))
-            .map(|group| [Lent::to_read(group.as_flattened()), Lent::NONE, Lent::NONE, Lent::NONE])
-            .collect::<Vec<Ins>>()
-            .leak();
-        let pass = |side: &'a dyn Side| {
-            let mut out = vec![0.0; BOX];
-            move || side.pass(black_box(lent), Lent::to_write(&mut out))
+        let timing = |set, boxes: &'static [Boxed]| {
+            let lent: &'static [Ins] = (boxes.chunks(MOST_BOXES))
+                .map(|group| [Lent::to_read(group.as_flattened()), Lent::NONE, Lent::NONE, Lent::NONE])
+                .collect::<Vec<Ins>>()
+                .leak();
+            let pass = |side: &'a dyn Side| {
+                let mut out = vec![0.0; BOX];
+                move || side.pass(black_box(lent), Lent::to_write(&mut out))
+            };
+            let (ours, rust) = (Box::new(pass(ours.as_ref())), Box::new(pass(self.rust.as_ref())));
+            Timing { set, ours, rust }
         };
-        let (ours, rust) = (Box::new(pass(ours.as_ref())), Box::new(pass(self.rust.as_ref())));
-        vec![Timing { set: "a box of 256", ours, rust }]
+        vec![
+            timing("a box of 256", Timing::inputs(|_, rng| inputs::ordinary_box(rng))),
+            timing("a box of 256, z from 0", Timing::inputs(|_, rng| inputs::ground_box(rng))),
+        ]
     }
 }
 

@@ -1,7 +1,7 @@
 //! Ranges.
 
 use crate::exported::{call, of_archive};
-use crate::inputs::{self, EMPTY, IDENTITY, Range, Rng, with};
+use crate::inputs::{self, EMPTY, IDENTITY, Range, with};
 use crate::op::Op;
 use crate::rust::{matrix, of_corners, of_range, point, range};
 use crate::signs;
@@ -53,13 +53,6 @@ fn fixed_pairs() -> Vec<(Range, Range)> {
     pairs
 }
 
-/// An ordinary range whose least z is 0, as a block's on flat land.
-fn from_zero(rng: &mut Rng) -> Range {
-    let mut r = inputs::ordinary_range(rng);
-    (r[2], r[5]) = (0.0, r[5].abs());
-    r
-}
-
 fn is_empty() -> Box<dyn Op> {
     call!(110 gf_range_is_empty(r: 6) -> bool { Ok(range(r).is_empty()) })
         .fixed(fixed().into_iter().map(|r| (r,)).collect())
@@ -74,7 +67,7 @@ fn union() -> Box<dyn Op> {
         .fixed(fixed_pairs())
         .drawn(|_, rng| inputs::two_ranges(rng))
         .timed("ordinary", |_, rng| (inputs::ordinary_range(rng), inputs::ordinary_range(rng)))
-        .timed("z from 0", |_, rng| (from_zero(rng), from_zero(rng)))
+        .timed("z from 0", |_, rng| (inputs::ground_range(rng), inputs::ground_range(rng)))
         .op()
 }
 
@@ -86,7 +79,7 @@ fn intersection() -> Box<dyn Op> {
         .fixed(fixed_pairs())
         .drawn(|_, rng| inputs::two_ranges(rng))
         .timed("ordinary", |_, rng| (inputs::ordinary_range(rng), inputs::ordinary_range(rng)))
-        .timed("z from 0", |_, rng| (from_zero(rng), from_zero(rng)))
+        .timed("z from 0", |_, rng| (inputs::ground_range(rng), inputs::ground_range(rng)))
         .op()
 }
 
@@ -144,7 +137,8 @@ fn transformed() -> Box<dyn Op> {
         .fixed(fixed)
         .drawn(|_, rng| inputs::range_and_matrix(rng))
         .timed("placements", |_, rng| (inputs::ordinary_range(rng), inputs::placement(rng)))
-        .timed("identity, z from 0", |_, rng| (from_zero(rng), IDENTITY))
+        .timed("identity, z from 0", |_, rng| (inputs::ground_range(rng), IDENTITY))
+        .timed("placements, z from 0", |_, rng| (inputs::ground_range(rng), inputs::placement(rng)))
         .op()
 }
 
