@@ -22,6 +22,7 @@ use Rattle.verdict.specs.declared.ray.TriangleHit.the-variants.{Hit, Ref
 use Rattle.verdict.specs.declared.ray.Axis.{Axis}
 use Rattle.verdict.specs.declared.ray.Axis.the-variants.{X, Y, Z}
 use Rattle.verdict.specs.declared.ray.Flat.{Flat}
+use Rattle.verdict.specs.declared.ray.Triangle.{Triangle}
 use Rattle.verdict.specs.Plane.{fromPoints}
 
 -- ---- its numbers, "ray 6 (start, direction)"
@@ -109,13 +110,22 @@ weighed distance front d0 d1 d2 =
     let gamma = gammaOf alpha beta in
     unless (inSpan beta && notNegative alpha && notNegative gamma) (Refused MissRefusal) (Hit distance gamma alpha beta front)
 
-abbrev pub within : PlaneHit → Ray → Axis → Vec3d → Vec3d → Vec3d → TriangleHit
-within (At d front) r a p0 p1 p2 =
-    weighed d front (projected a (difference (pointAt r d) p0)) (projected a (difference p1 p0)) (projected a (difference p2 p0))
-within Miss r a p0 p1 p2 = Refused MissRefusal
+-- What the hits of a triangle share: its plane, its first point, the axis that the plane faces, and the second and the third point from the first, projected.
+abbrev pub triangleOf : Vec3d → Vec3d → Vec3d → Triangle
+triangleOf p0 p1 p2 =
+    let p = fromPoints p0 p1 p2 in
+    let a = faced (p .normal) in
+    record { plane = p; first = p0; axis = a; second = projected a (difference p1 p0); third = projected a (difference p2 p0) }
+
+abbrev pub within : PlaneHit → Ray → Triangle → TriangleHit
+within (At d front) r t = weighed d front (projected (t .axis) (difference (pointAt r d) (t .first))) (t .second) (t .third)
+within Miss r t = Refused MissRefusal
+
+unfoldable pub hitOf : Ray → Triangle → TriangleHit
+hitOf r t = within (planeHit r (t .plane)) r t
 
 unfoldable pub triangleHit : Ray → Vec3d → Vec3d → Vec3d → TriangleHit
-triangleHit r p0 p1 p2 = let p = fromPoints p0 p1 p2 in within (planeHit r p) r (faced (p .normal)) p0 p1 p2
+triangleHit r p0 p1 p2 = hitOf r (triangleOf p0 p1 p2)
 
 -- ---- what each answer comes to in paper 01's numbers
 

@@ -2,7 +2,7 @@
 ghost use mathlib.Core.Path.{_≡_};
 ghost use mathlib.Core.Bool.{_&&_};
 ghost use lib.Ieee.{lt};
-ghost use Rattle.verdict.specs.Ray.{numbers, rayOf, pointAt, transformed, planeHit, frontFlag, faced, projected, settled, betaOf, alphaOf, gammaOf, weighed, triangleHit};
+ghost use Rattle.verdict.specs.Ray.{numbers, rayOf, pointAt, transformed, planeHit, frontFlag, faced, projected, settled, betaOf, alphaOf, gammaOf, weighed, triangleOf, hitOf, triangleHit};
 ghost use Rattle.number.specs.Slice.{stored};
 use crate::plane::Plane;
 use matrix::matrix::Mat4d;
@@ -52,6 +52,16 @@ enum Axis {
 struct Flat {
     u: f64,
     v: f64,
+}
+
+// What the hits of a triangle share, so that many rays have it from one: its plane, its first point, the axis that the plane faces, and the second
+// and the third point from the first, projected along it.
+pub struct Triangle {
+    plane: Plane,
+    first: Vec3d,
+    axis: Axis,
+    second: Flat,
+    third: Flat,
 }
 
 // 1 for the front and 0 for the back.
@@ -163,6 +173,34 @@ impl Flat {
     }
 }
 
+impl Triangle {
+    pub fn new(p0: Vec3d, p1: Vec3d, p2: Vec3d) -> Triangle
+        ensures { λ r. ⌜ r ≡ triangleOf p0 p1 p2 ⌝ }
+    {
+        let plane = Plane::from_points(p0, p1, p2);
+        let axis = faced(plane.normal);
+        Triangle {
+            plane,
+            first: p0,
+            axis,
+            second: projected(axis, p1.sub(p0)),
+            third: projected(axis, p2.sub(p0)),
+        }
+    }
+
+    // Where a ray meets it.
+    pub fn hit_by(self, ray: Ray) -> TriangleHit
+        ensures { λ r. ⌜ r ≡ hitOf ray self ⌝ }
+    {
+        let PlaneHit::At { distance, front } = ray.intersect_plane(self.plane) else {
+            return TriangleHit::Refused(Refusal::Miss);
+        };
+        let axis = self.axis;
+        let met = projected(axis, ray.point(distance).sub(self.first));
+        met.weighed(self.second, self.third, distance, front)
+    }
+}
+
 impl Ray {
     // The start moved by a number of directions.
     pub fn point(self, distance: f64) -> Vec3d
@@ -201,15 +239,7 @@ impl Ray {
     pub fn intersect_triangle(self, p0: Vec3d, p1: Vec3d, p2: Vec3d) -> TriangleHit
         ensures { λ r. ⌜ r ≡ triangleHit self p0 p1 p2 ⌝ }
     {
-        let plane = Plane::from_points(p0, p1, p2);
-        let PlaneHit::At { distance, front } = self.intersect_plane(plane) else {
-            return TriangleHit::Refused(Refusal::Miss);
-        };
-        let axis = faced(plane.normal);
-        let d0 = projected(axis, self.point(distance).sub(p0));
-        let d1 = projected(axis, p1.sub(p0));
-        let d2 = projected(axis, p2.sub(p0));
-        d0.weighed(d1, d2, distance, front)
+        Triangle::new(p0, p1, p2).hit_by(self)
     }
 
     // The first six numbers of a slice.

@@ -1,0 +1,126 @@
+-- Many rays in one call are the single call for each: what is answered has passed the tests of every call. Assumes nothing.
+use mathlib.Core.Path.{_≡_, refl, sym, ap, ap₂, _∙_, subst}
+use mathlib.Core.Bool.{Bool, true, false, _&&_, _||_}
+use mathlib.Core.List.{List, [], _∷_, _++_, map}
+use Prim.Native.Nat.{ℕ, zero, suc, _*_, _%_}
+use native.Mathlib.Nat.{div-add-mod'}
+use native.Mathlib.Omega.{arith}
+use borrow.Author.Tests.{eq-eqb}
+use lib.Dec.{T, eqb, eqb→eq, ltb}
+use lib.ListN.{length, take, drop, length-drop}
+use lib.Seq.{length-take-le}
+use lib.Ieee.{Float}
+use Rattle.number.specs.Limits.{pointLength, rayLength, hitLength}
+use Rattle.number.specs.Answer.{Reply, unless, has, leaving}
+use Rattle.number.specs.Every.{every}
+use Rattle.number.specs.declared.answer.Refusal.the-variants.{Miss as MissRefusal}
+use Rattle.number.proofs.Tests.{both-hold}
+use Rattle.matrix.specs.Vec.{vec3Of, difference}
+use Rattle.verdict.specs.declared.ray.Ray.{Ray}
+use Rattle.verdict.specs.declared.ray.Triangle.{Triangle}
+use Rattle.verdict.specs.declared.ray.PlaneHit.{PlaneHit}
+use Rattle.verdict.specs.declared.ray.PlaneHit.the-variants.{At, Miss}
+use Rattle.verdict.specs.declared.ray.TriangleHit.{TriangleHit}
+use Rattle.verdict.specs.declared.ray.TriangleHit.the-variants.{Hit, Refused}
+use Rattle.verdict.specs.Ray.{rayOf, pointAt, planeHit, projected, betaOf, alphaOf, gammaOf, inSpan, notNegative, weighed, within, triangleOf, hitOf, triangleHit}
+use Rattle.verdict.specs.RayCalls.{triangleHitCall}
+use Rattle.hail.specs.Hail.{rays, raysOf, rayCount, areRays, noHit, landed, numbersOf, slotsOf, hitsOf, Left, left, raysCall}
+use Rattle.hail.specs.EachCall.{eachCall, joined, RaysAreEachCall, SlotsTellHitOrMiss}
+
+-- ---- the single calls
+
+module _ (p0 p1 p2 : List Float) (a : has pointLength p0 ≡ true) (b : has pointLength p1 ≡ true) (c : has pointLength p2 ≡ true) where
+  single : (r : List Float) → length r ≡ rayLength → triangleHitCall r p0 p1 p2 noHit ≡ landed (triangleHit (rayOf r) (vec3Of p0) (vec3Of p1) (vec3Of p2))
+  unfolding triangleHitCall leaving
+  single r h = rw (eq-eqb _ _ h, a, b, c)
+
+  each : (k : ℕ) (s : List Float) → length s ≡ k * rayLength
+      → map (λ (r : List Float). triangleHitCall r p0 p1 p2 noHit) (rays k s) ≡ map landed (hitsOf (rays k s) (vec3Of p0) (vec3Of p1) (vec3Of p2))
+  unfolding rays
+  each zero s h = refl
+  each (suc k) s h =
+      let l = length-drop rayLength s in
+      ap₂ (λ (x : Reply Float) (xs : List (Reply Float)). x ∷ xs) (single (take rayLength s) (length-take-le rayLength s (omega arith))) (each k (drop rayLength s) (omega arith))
+
+same-numbers : (hs : List TriangleHit) → joined (map landed hs) ≡ numbersOf hs
+same-numbers [] = refl
+same-numbers (h ∷ hs) = ap (λ (l : List Float). landed h .out ++ l) (same-numbers hs)
+
+same-slots : (hs : List TriangleHit) → map (λ (c : Reply Float). c .status) (map landed hs) ≡ slotsOf hs
+same-slots [] = refl
+same-slots (h ∷ hs) = ap (λ (l : List ℕ). landed h .status ∷ l) (same-slots hs)
+
+-- ---- the call that is not refused
+
+abbrev inputs : List Float → List Float → List Float → List Float → Bool
+inputs s p0 p1 p2 = areRays s && has pointLength p0 && has pointLength p1 && has pointLength p2
+
+module _ (s p0 p1 p2 out : List Float) (slots : List ℕ) where
+  abbrev hits : List TriangleHit
+  hits = hitsOf (raysOf s) (vec3Of p0) (vec3Of p1) (vec3Of p2)
+
+  abbrev answer : Bool → Bool → Left
+  answer right room = unless right (left 1 out slots) (unless room (left 2 out slots) (left 0 (numbersOf hits) (slotsOf hits)))
+
+  -- its inputs are right, and it leaves the hits
+  accepted : raysCall s p0 p1 p2 out slots .status ≡ 0 → (inputs s p0 p1 p2 ≡ true) × (raysCall s p0 p1 p2 out slots ≡ left 0 (numbersOf hits) (slotsOf hits))
+  unfolding raysCall
+  accepted e = go (inputs s p0 p1 p2) (has (rayCount s * hitLength) out && has (rayCount s) slots) refl e
+    where
+      go : (right room : Bool) → inputs s p0 p1 p2 ≡ right → answer right room .status ≡ 0
+          → (inputs s p0 p1 p2 ≡ true) × (answer right room ≡ left 0 (numbersOf hits) (slotsOf hits))
+      go true true p q = (p, refl)
+      go true false p q = absurd (omega (arith, q))
+      go false room p q = absurd (omega (arith, q))
+
+pub rays-are-each-call : RaysAreEachCall
+rays-are-each-call s p0 p1 p2 out slots e =
+    let k = accepted s p0 p1 p2 out slots e in
+    let third = both-hold (areRays s && has pointLength p0 && has pointLength p1) (has pointLength p2) (k .0) in
+    let second = both-hold (areRays s && has pointLength p0) (has pointLength p1) (third .0) in
+    let first = both-hold (areRays s) (has pointLength p0) (second .0) in
+    let whole = both-hold (ltb 0 (length s)) (eqb (length s % rayLength) 0) (first .0) in
+    let m : length s % rayLength ≡ 0 = eqb→eq (length s % rayLength) 0 (subst T (sym (whole .1)) tt) in
+    let l : length s ≡ rayCount s * rayLength = omega (arith, m, div-add-mod' (length s) rayLength) in
+    let calls = each p0 p1 p2 (first .1) (second .1) (third .1) (rayCount s) s l in
+    k .1
+    ∙ (λ t. left 0 (sym (ap joined calls ∙ same-numbers (hits s p0 p1 p2 out slots)) t)
+    (sym (ap (map (λ (c : Reply Float). c .status)) calls ∙ same-slots (hits s p0 p1 p2 out slots)) t))
+
+-- ---- a hit or a miss
+
+abbrev HitOrMiss : TriangleHit → Type 0
+HitOrMiss h = (eqb (landed h .status) 0 || eqb (landed h .status) 5) ≡ true
+
+either : (b : Bool) (d g a c : Float) (front : Bool) (h : TriangleHit) → h ≡ unless b (Refused MissRefusal) (Hit d g a c front) → HitOrMiss h
+either b d g a c front h e = ap (λ (k : TriangleHit). eqb (landed k .status) 0 || eqb (landed k .status) 5) e ∙ go b
+  where
+    go : (b : Bool) → HitOrMiss (unless b (Refused MissRefusal) (Hit d g a c front))
+    go true = refl
+    go false = refl
+
+meets : (r : Ray) (t : Triangle) (h : PlaneHit) → HitOrMiss (within h r t)
+unfolding weighed
+meets r t Miss = refl
+meets r t (At d front) =
+    let met = projected (t .axis) (difference (pointAt r d) (t .first)) in
+    let beta = betaOf met (t .second) (t .third) in
+    let alpha = alphaOf met (t .second) (t .third) beta in
+    let gamma = gammaOf alpha beta in
+    either (inSpan beta && notNegative alpha && notNegative gamma) d gamma alpha beta front (weighed d front met (t .second) (t .third)) refl
+
+hit-or-miss : (r : Ray) (t : Triangle) → HitOrMiss (hitOf r t)
+unfolding hitOf
+hit-or-miss r t = meets r t (planeHit r (t .plane))
+
+every-slot : (ss : List (List Float)) (f : List Float → TriangleHit) → ((r : List Float) → HitOrMiss (f r)) → every (λ (n : ℕ). eqb n 0 || eqb n 5) (slotsOf (map f ss)) ≡ true
+unfolding every
+every-slot [] f h = refl
+every-slot (r ∷ rs) f h = λ i. h r i && every-slot rs f h i
+
+pub slots-tell-hit-or-miss : SlotsTellHitOrMiss
+unfolding triangleHit
+slots-tell-hit-or-miss s p0 p1 p2 out slots e =
+    ap (λ (l : Left). every (λ (n : ℕ). eqb n 0 || eqb n 5) (l .slots)) (accepted s p0 p1 p2 out slots e .1)
+    ∙ every-slot (raysOf s) (λ (r : List Float). triangleHit (rayOf r) (vec3Of p0) (vec3Of p1) (vec3Of p2))
+    (λ r. hit-or-miss (rayOf r) (triangleOf (vec3Of p0) (vec3Of p1) (vec3Of p2)))
