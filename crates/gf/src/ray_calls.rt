@@ -2,6 +2,7 @@
 ghost use mathlib.Core.Path.{_≡_};
 ghost use Rattle.number.specs.Answer.{answered};
 ghost use Rattle.verdict.specs.RayCalls.{pointCall, transformedRayCall, planeHitCall, triangleHitCall};
+ghost use Rattle.hail.specs.Hail.{left, raysCall};
 
 #[no_mangle]
 pub extern "C" fn gf_ray_point(ray: &[f64], distance: f64, out: &mut [f64]) -> u32
@@ -35,4 +36,18 @@ pub extern "C" fn gf_ray_intersect_triangle(
     ensures { λ r. ⌜ answered r (now (out .exit)) ≡ triangleHitCall (now (ray .entry)) (now (p0 .entry)) (now (p1 .entry)) (now (p2 .entry)) (now (out .entry)) ⌝ }
 {
     verdict::ray_calls::intersect_triangle(ray, p0, p1, p2, out).status()
+}
+
+#[no_mangle]
+pub extern "C" fn gf_rays_intersect_triangle(
+    rays: &[f64],
+    p0: &[f64],
+    p1: &[f64],
+    p2: &[f64],
+    out: &mut [f64],
+    status: &mut [u32],
+) -> u32
+    ensures { λ r. ⌜ left r (now (out .exit)) (now (status .exit)) ≡ raysCall (now (rays .entry)) (now (p0 .entry)) (now (p1 .entry)) (now (p2 .entry)) (now (out .entry)) (now (status .entry)) ⌝ }
+{
+    hail::hail_calls::intersect_triangle(rays, p0, p1, p2, out, status).status()
 }
