@@ -23,6 +23,7 @@ use Rattle.verdict.specs.declared.ray.Axis.{Axis}
 use Rattle.verdict.specs.declared.ray.Axis.the-variants.{X, Y, Z}
 use Rattle.verdict.specs.declared.ray.Flat.{Flat}
 use Rattle.verdict.specs.declared.ray.Triangle.{Triangle}
+use Rattle.verdict.specs.declared.ray.Meeting.{Meeting}
 use Rattle.verdict.specs.Plane.{fromPoints}
 
 -- ---- its numbers, "ray 6 (start, direction)"
@@ -123,6 +124,10 @@ within Miss r t = Refused MissRefusal
 
 unfoldable pub hitOf : Ray → Triangle → TriangleHit
 hitOf r t = within (planeHit r (t .plane)) r t
+
+-- what a meeting says
+abbrev pub hitIn : Meeting → TriangleHit
+hitIn m = unless (m .hit) (Refused MissRefusal) (Hit (m .distance) (m .gamma) (m .alpha) (m .beta) (m .front))
 
 unfoldable pub triangleHit : Ray → Vec3d → Vec3d → Vec3d → TriangleHit
 triangleHit r p0 p1 p2 = hitOf r (triangleOf p0 p1 p2)

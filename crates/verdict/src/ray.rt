@@ -2,7 +2,7 @@
 ghost use mathlib.Core.Path.{_≡_};
 ghost use mathlib.Core.Bool.{_&&_};
 ghost use lib.Ieee.{lt};
-ghost use Rattle.verdict.specs.Ray.{numbers, rayOf, pointAt, transformed, planeHit, frontFlag, faced, projected, settled, betaOf, alphaOf, gammaOf, weighed, triangleOf, hitOf, triangleHit};
+ghost use Rattle.verdict.specs.Ray.{numbers, rayOf, pointAt, transformed, planeHit, frontFlag, faced, projected, settled, betaOf, alphaOf, gammaOf, weighed, triangleOf, hitOf, hitIn, triangleHit};
 ghost use Rattle.number.specs.Slice.{stored};
 use crate::plane::Plane;
 use matrix::matrix::Mat4d;
@@ -39,6 +39,17 @@ pub enum TriangleHit {
         front: bool,
     },
     Refused(Refusal),
+}
+
+// The numbers of a hit and whether there is one; where there is none they stand for nothing. What would be a branch is a number here, so that the numbers of
+// several rays are on their way at a time.
+pub struct Meeting {
+    pub distance: f64,
+    pub gamma: f64,
+    pub alpha: f64,
+    pub beta: f64,
+    pub front: bool,
+    pub hit: bool,
 }
 
 // The axis that a plane faces most.
@@ -189,7 +200,7 @@ impl Triangle {
     }
 
     // Where a ray meets it.
-    pub fn hit_by(self, ray: Ray) -> TriangleHit
+    fn hit_by(self, ray: Ray) -> TriangleHit
         ensures { λ r. ⌜ r ≡ hitOf ray self ⌝ }
     {
         let PlaneHit::At { distance, front } = ray.intersect_plane(self.plane) else {
@@ -198,6 +209,35 @@ impl Triangle {
         let axis = self.axis;
         let met = projected(axis, ray.point(distance).sub(self.first));
         met.weighed(self.second, self.third, distance, front)
+    }
+
+    // The same, with all weights before any is looked at.
+    pub fn met_by(self, ray: Ray) -> Meeting
+        ensures { λ r. ⌜ hitIn r ≡ hitOf ray self ⌝ }
+    {
+        let PlaneHit::At { distance, front } = ray.intersect_plane(self.plane) else {
+            return Meeting {
+                distance: 0.0,
+                gamma: 0.0,
+                alpha: 0.0,
+                beta: 0.0,
+                front: false,
+                hit: false,
+            };
+        };
+        let axis = self.axis;
+        let met = projected(axis, ray.point(distance).sub(self.first));
+        let beta = met.beta(self.second, self.third);
+        let alpha = met.alpha(self.second, self.third, beta);
+        let gamma = gamma(alpha, beta);
+        Meeting {
+            distance,
+            gamma,
+            alpha,
+            beta,
+            front,
+            hit: (beta >= 0.0) & (beta <= 1.0) & !(alpha < 0.0) & !(gamma < 0.0),
+        }
     }
 }
 

@@ -1,87 +1,25 @@
--- `hail::answer` meets its contract: what is filled in front and the rays left decide. Assumes nothing.
-use mathlib.Core.Path.{_≡_, refl, sym, ap, _∙_}
-use mathlib.Core.List.{List, map}
-use Prim.Native.Nat.{_+_, _-_, _*_, _≤_}
-use native.Mathlib.Nat.{mul-le-mul-right}
-use native.Mathlib.Omega.{arith}
+-- `hail::answer` meets its contract by what it calls. Assumes nothing.
+use mathlib.Core.Path.{sym, ap, _∙_}
+use Prim.Native.Nat.{ℕ, _*_}
 use borrow.Author.Needs.{needs}
-use lib.ListN.{length, length-set}
-use lib.Ieee.{Float}
-use Rattle.number.specs.Limits.{rayLength, hitLength}
-use Rattle.verdict.specs.declared.ray.Ray.{Ray}
-use Rattle.verdict.specs.declared.ray.Triangle.{Triangle}
-use Rattle.verdict.specs.declared.ray.TriangleHit.{TriangleHit}
-use Rattle.verdict.specs.Ray.{rayOf, hitOf}
-use Rattle.hail.specs.Hail.{rays, landed, numbersOf, slotsOf}
-use Rattle.hail.proofs.Passed.{all-slots, all-numbers, no-slot-passed, no-number-passed, slot-passed, number-passed, stored-length, slots-passed, numbers-passed}
+use Rattle.number.specs.Limits.{hitLength}
 use Rattle.hail.proofs.hail.answer.Statement.{statement}
 use Rattle.hail.proofs.hail.answer.Tie as tie
 
-abbrev on : Triangle → List Float → TriangleHit
-on t r = hitOf (rayOf r) t
+meet-requires : tie.Need-meet-requires
+meet-requires c κs = search needs
 
-abbrev Inv-loop : tie.InvT-loop
-Inv-loop triangle s out₀ status₀ i₀ out status i =
-    (i ≤ length status) × (length status ≡ length status₀) × (length out ≡ length out₀)
-    × (all-numbers (on triangle) (length status₀) s out i ≡ numbersOf (map (on triangle) (rays (length status₀) s)))
-    × (all-slots (on triangle) (length status₀) s status i ≡ slotsOf (map (on triangle) (rays (length status₀) s)))
+clear-misses-requires : tie.Need-clear-misses-requires
+clear-misses-requires c κs =
+    let met = c .before .before .before .before .before .before in
+    let start = met .before .before .before .before .before .before in
+    met .meet .ensures .2 ∙ start .pre .1 ∙ sym (ap (λ (n : ℕ). n * hitLength) (met .meet .ensures .3))
 
-abbrev μ-loop : tie.MeasureT-loop
-μ-loop triangle s out₀ status₀ i₀ out status i = length status₀ - i
-
-loop-holds : tie.Need-loop-holds Inv-loop μ-loop
-loop-holds c =
-    let a = c .before .before .before .args in
-    (omega arith, refl, refl, no-number-passed (on (a .triangle)) (length (a .status .now)) (a .s .now) (a .out .now), no-slot-passed (on (a .triangle)) (length (a .status .now)) (a .s .now) (a .status .now))
-
-loop-again : tie.Need-loop-again Inv-loop μ-loop
-loop-again c =
-    let stored = c .before .before in
-    let landing = stored .before .before in
-    let met = landing .before in
-    let read = met .before in
-    let l = read .before .before .loop in
-    let start = read .before .before .before .before .before .before in
-    let a = start .args in
-    let f = on (a .triangle) in
-    let n = length (a .status .now) in
-    let hit = landing .landed .result in
-    let h = landing .landed .ensures ∙ ap landed (met .hit-by .ensures ∙ ap (λ (r : Ray). hitOf r (a .triangle)) (read .ray-at .ensures)) in
-    let many = length-set (l .status) (l .i) (hit .slot) in
-    let fits : l .i * hitLength + hitLength ≤ length (l .out) = omega (arith, start .pre .1, l .inv .1, l .inv .2) in (
-      omega (arith, many),
-      many ∙ l .inv .1,
-      ap length (stored .store-hit .ensures) ∙ stored-length f n (a .s .now) (l .out) (l .i) hit fits ∙ l .inv .2,
-      ap (λ (v : List Float). all-numbers f n (a .s .now) v (l .i + 1)) (stored .store-hit .ensures)
-          ∙ number-passed f n (a .s .now) (l .out) (l .i) hit fits (omega (arith, l .inv .1)) h ∙ l .inv .3,
-      slot-passed f n (a .s .now) (l .status) (l .i) hit (omega arith) (omega (arith, l .inv .1)) h ∙ l .inv .4,
-    )
-
-returns : tie.Need-returns Inv-loop μ-loop
+returns : tie.Need-returns
 returns c =
-    let l = c .before .loop in
-    let start = c .before .before .before .before .before in
-    let a = start .args in
-    let f = on (a .triangle) in
-    let n = length (a .status .now) in
-    (numbers-passed f n (a .s .now) (l .out) (l .i) (l .inv .2 ∙ start .pre .1) (omega (arith, l .inv .1)) ∙ l .inv .3, slots-passed f n (a .s .now) (l .status) (l .i) (l .inv .1) (omega (arith, l .inv .1)) ∙ l .inv .4)
-
-fits : tie.Need-store-hit-requires Inv-loop μ-loop
-fits c κs =
-    let l = c .before .before .before .before .before .loop in
-    let start = c .before .before .before .before .before .before .before .before .before in
-    omega (arith, start .pre .1, l .inv .1, l .inv .2)
-
-mul-store-hit : tie.Need-mul-store-hit Inv-loop μ-loop
-mul-store-hit c =
-    let l = c .before .before .before .before .before .loop in
-    let start = c .before .before .before .before .before .before .before .before .before in
-    omega (arith, start .pre .1, l .inv .1, l .inv .2)
-
-loop-less : tie.Need-loop-less Inv-loop μ-loop
-loop-less c = let l = c .before .before .before .before .before .before .before .before .loop in omega (arith, l .inv .1)
+    let cleared = c .before .before in
+    let met = cleared .before .before .before .before .before .before .before in
+    (cleared .clear-misses .ensures ∙ met .meet .ensures .0, met .meet .ensures .1)
 
 pub answer-spec : {M : Type 1} → statement M
-answer-spec = tie.close
-    (tie.spec Inv-loop μ-loop loop-holds (λ c κs. omega (arith, c .before .before .before .before .before .pre .0, c .before .loop .inv .1)) (λ c κs. tt) (λ c κs. tt) (λ c. search needs)
-    (λ c. search needs) mul-store-hit fits (λ c. search needs) loop-less loop-again (λ c. c .before .loop .inv .2) (λ c. c .before .loop .inv .1) returns)
+answer-spec = tie.close (tie.spec meet-requires clear-misses-requires (λ c. search needs) (λ c. search needs) returns)
