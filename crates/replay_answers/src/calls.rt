@@ -1,10 +1,11 @@
 // The operations of the crates `number`, codes from 1, `matrix`, from 101, `verdict`, from 201, `camera`, 223, `group`, 224 and 228,
-// `nearest`, 225 and 226, `whole`, 227, `blocking`, 229 and 231, `exact`, 232, and `placed`, 233.
+// `nearest`, 225 and 226, `whole`, 227, `blocking`, 229 and 231, `hail`, 230, `exact`, 232, and `placed`, 233.
 ghost use Prim.Native.Nat.{_<_};
 use crate::blocking_operations;
 use crate::camera_operations;
 use crate::exact_operations;
 use crate::group_operations;
+use crate::hail_operations;
 use crate::matrix_operations;
 use crate::nearest_operations;
 use crate::number_operations;
@@ -38,6 +39,9 @@ pub(crate) fn lengths(code: u64, given: usize) -> [u8; 5] {
     }
     if (code == 232) | (code == 233) {
         return exact_operations::lengths(code, given);
+    }
+    if code == 230 {
+        return hail_operations::lengths(given);
     }
     camera_operations::lengths(code)
 }
@@ -92,6 +96,9 @@ pub(crate) fn call(code: u64, given: &[f64], lengths: [u8; 5], out: &mut [f64]) 
     }
     if (code == 232) | (code == 233) {
         return exact_operations::call(code, a, b, out);
+    }
+    if code == 230 {
+        return hail_operations::call(a, b, c, d, out);
     }
     camera_operations::call(a, b, c, out)
 }

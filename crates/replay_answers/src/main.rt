@@ -1,10 +1,11 @@
 // Replays answers recorded from Rust. For each operation the program writes how many of its records the
-// crates `number`, `matrix`, `verdict`, `camera`, `group`, `nearest`, `whole`, `blocking`, `exact` and `placed` agree with, and how many it read.
+// crates `number`, `matrix`, `verdict`, `camera`, `group`, `nearest`, `whole`, `blocking`, `exact`, `placed` and `hail` agree with, and how many it read.
 mod blocking_operations;
 mod calls;
 mod camera_operations;
 mod exact_operations;
 mod group_operations;
+mod hail_operations;
 mod matrix_operations;
 mod nearest_operations;
 mod number_operations;
@@ -112,6 +113,10 @@ fn print_exact_counts(agreed: &[u64; 256], read: &[u64; 256]) {
     print_count(b"exact_bbox", 233, agreed, read);
 }
 
+fn print_hail_counts(agreed: &[u64; 256], read: &[u64; 256]) {
+    print_count(b"rays_intersect_triangle", 230, agreed, read);
+}
+
 fn main() {
     let mut agreed = [0u64; 256];
     let mut read = [0u64; 256];
@@ -130,4 +135,5 @@ fn main() {
     print_whole_counts(&agreed, &read);
     print_blocking_counts(&agreed, &read);
     print_exact_counts(&agreed, &read);
+    print_hail_counts(&agreed, &read);
 }
