@@ -241,6 +241,14 @@ uint32_t gf_ray_intersect_plane(const double *ray, size_t ray_len, const double 
  * In: ray 6, p0 3, p1 3, p2 3. Out: 5 numbers. Refuses: 1, 2, 5. */
 uint32_t gf_ray_intersect_triangle(const double *ray, size_t ray_len, const double *p0, size_t p0_len, const double *p1, size_t p1_len, const double *p2, size_t p2_len, double *out, size_t out_len);
 
+/* The same of several rays, one or more of them, one behind another, as hail falls onto a net: ray i has five numbers of out, from
+ * 5 * i on, and slot i of status, 0 where it meets the triangle and 5 where it misses. The five numbers of a miss are 0. Both are what
+ * gf_ray_intersect_triangle answers and writes for that ray. The plane of the points is made once, so that a call for all rays on a
+ * triangle takes less time than one for each. A refusal writes neither out nor status. 1: there is no number of a ray, their count is
+ * not a multiple of 6, or a point has not 3. 2: out has not 5 numbers for each ray, or status not a slot for each.
+ * In: rays 6 each, p0 3, p1 3, p2 3. Out: 5 numbers and a slot for each ray. Refuses: 1, 2. */
+uint32_t gf_rays_intersect_triangle(const double *rays, size_t rays_len, const double *p0, size_t p0_len, const double *p1, size_t p1_len, const double *p2, size_t p2_len, double *out, size_t out_len, uint32_t *status, size_t status_len);
+
 /* ---- projections */
 
 /* The matrix of a projection. 3: the kind is neither 0, of either sign, nor 1.

@@ -2,7 +2,7 @@
 //! cameras a second, and how much of our time goes into roots.
 
 use crate::exported::of_archive;
-use crate::inputs::{Boxed, Placed, Point, Rng, SurveyedFarm, Volume, cross, difference, dot};
+use crate::inputs::{Boxed, Placed, Point, Ray, Rng, SurveyedFarm, Volume, cross, difference, dot};
 use crate::judge;
 use crate::lent::{Ins, Lent, Record, Side, Single};
 use crate::op::Op;
@@ -28,29 +28,42 @@ enum Gives {
     Numbers(usize),
     /// A yes or no for each of so many, two in a number.
     Slots(usize),
+    /// Five numbers for each ray that is lent, and behind them all a slot for
+    /// each, two in a number.
+    Hits,
 }
 
 impl Gives {
     /// How many numbers, or slots, it is lent.
-    fn room(self) -> usize {
+    fn room(self, ins: &Ins) -> usize {
         match self {
             Gives::Verdict => 1,
             Gives::Numbers(room) | Gives::Slots(room) => room,
+            Gives::Hits => 6 * self.settles(ins),
         }
     }
 
     /// How many things it settles.
-    fn settles(self) -> usize {
-        if let Gives::Slots(slots) = self { slots } else { 1 }
+    fn settles(self, ins: &Ins) -> usize {
+        match self {
+            Gives::Slots(slots) => slots,
+            Gives::Hits => ins[0].len / 6,
+            Gives::Verdict | Gives::Numbers(_) => 1,
+        }
     }
 
-    /// How many of these were answered with a yes, or with a result where there
-    /// is no verdict.
-    fn yes(self, answer: &[f64]) -> usize {
-        let words = answer.iter().flat_map(|number| [number.to_bits() as u32, (number.to_bits() >> 32) as u32]);
+    /// How many of these were answered with a yes or a hit, or with a result
+    /// where there is no verdict.
+    fn yes(self, ins: &Ins, answer: &[f64]) -> usize {
+        let settles = self.settles(ins);
+        let words = |numbers: &[f64]| {
+            let words = |number: &f64| [number.to_bits() as u32, (number.to_bits() >> 32) as u32];
+            numbers.iter().flat_map(words).take(settles).collect::<Vec<u32>>()
+        };
         match self {
             Gives::Numbers(_) => 1,
-            Gives::Verdict | Gives::Slots(_) => words.take(self.settles()).filter(|&word| word == 1).count(),
+            Gives::Verdict | Gives::Slots(_) => words(answer).into_iter().filter(|&word| word == 1).count(),
+            Gives::Hits => words(&answer[5 * settles..]).into_iter().filter(|&slot| slot == 0).count(),
         }
     }
 }
@@ -67,11 +80,12 @@ struct Work<'a> {
     counts: bool,
 }
 
-/// A farm, with its blocks one behind another and its focal length as they are
-/// lent.
+/// A farm, with its blocks one behind another, the rays of a panel one behind
+/// another for each of its triangles, and its focal length as they are lent.
 struct Farm {
     surveyed: SurveyedFarm,
     blocks: Vec<Boxed>,
+    hail: Vec<([Point; 3], Vec<Ray>)>,
     focal_length: Single,
 }
 
@@ -136,16 +150,29 @@ fn works(ops: &[Box<dyn Op>]) -> Result<Vec<Work<'_>>, String> {
         }
         Err(lacking) => println!("{lacking}: a farm's blocks are asked for one by one"),
     }
+    let mut single = work(
+        "rays, one by one",
+        "ray_intersect_triangle",
+        Gives::Numbers(5),
+        Box::new(|farm: &Farm| farm.surveyed.hail.iter().map(|(ray, [a, b, c])| Lent::all(&[ray, a, b, c])).collect()),
+        Box::new(|farm: &Farm| farm.surveyed.hail.iter().map(|&(_, corners)| plane_root(corners)).collect()),
+    )?;
+    let together = work(
+        "rays, by triangle",
+        "rays_intersect_triangle",
+        Gives::Hits,
+        Box::new(|farm: &Farm| {
+            farm.hail.iter().map(|([a, b, c], rays)| Lent::all(&[rays.as_flattened(), a, b, c])).collect()
+        }),
+        Box::new(|farm: &Farm| farm.hail.iter().map(|&(corners, _)| plane_root(corners)).collect()),
+    );
+    single.counts = together.is_err();
+    all.push(single);
+    match together {
+        Ok(together) => all.push(together),
+        Err(lacking) => println!("{lacking}: rays are asked for one by one"),
+    }
     all.extend([
-        work(
-            "rays on triangles",
-            "ray_intersect_triangle",
-            Gives::Numbers(5),
-            Box::new(|farm: &Farm| {
-                farm.surveyed.hail.iter().map(|(ray, [a, b, c])| Lent::all(&[ray, a, b, c])).collect()
-            }),
-            Box::new(|farm: &Farm| farm.surveyed.hail.iter().map(|&(_, corners)| plane_root(corners)).collect()),
-        )?,
         work(
             "planes from points",
             "plane_from_points",
@@ -254,7 +281,14 @@ impl Farm {
     fn drawn(rng: &mut Rng) -> Farm {
         let surveyed = SurveyedFarm::drawn(rng);
         let blocks = surveyed.blocks.iter().map(|&(_, block)| block).collect();
-        Farm { focal_length: surveyed.camera.2.into(), blocks, surveyed }
+        let mut hail: Vec<([Point; 3], Vec<Ray>)> = vec![];
+        for &(ray, corners) in &surveyed.hail {
+            match hail.iter_mut().find(|(triangle, _)| *triangle == corners) {
+                Some((_, rays)) => rays.push(ray),
+                None => hail.push((corners, vec![ray])),
+            }
+        }
+        Farm { focal_length: surveyed.camera.2.into(), blocks, hail, surveyed }
     }
 }
 
@@ -264,15 +298,16 @@ impl Work<'_> {
     fn spent(&self, farms: &[Farm], root: Root, ours_first: bool) -> Spent {
         let calls: Vec<Ins> = farms.iter().flat_map(&self.calls).collect();
         let roots: Vec<f64> = farms.iter().flat_map(&self.roots).collect();
-        let settled = calls.len() * self.gives.settles();
+        let settled = calls.iter().map(|ins| self.gives.settles(ins)).sum();
         let mut spent = Spent { settled, roots: roots.len(), ..Spent::default() };
         for ins in &calls {
             let (rust, ours) = (self.answer(self.rust, ins), self.answer(self.ours, ins));
             let agree = rust.0 == ours.0 && rust.1.iter().zip(&ours.1).all(|(&rust, &ours)| judge::signed(rust, ours));
             spent.differences += usize::from(!agree);
-            spent.yes += if ours.0 == 0 { self.gives.yes(&ours.1) } else { 0 };
+            spent.yes += if ours.0 == 0 { self.gives.yes(ins, &ours.1) } else { 0 };
         }
-        let mut out = vec![0.0; self.gives.room()];
+        // A call takes of it as much as is its own.
+        let mut out = vec![0.0; calls.iter().map(|ins| self.gives.room(ins)).max().unwrap_or(0)];
         let mut pass = |side: &dyn Side| {
             let (calls, out) = (black_box(&calls[..]), Lent::to_write(&mut out));
             timed(|| side.pass(calls, out))
@@ -294,7 +329,7 @@ impl Work<'_> {
 
     /// The status of a call and what it writes.
     fn answer(&self, side: &dyn Side, ins: &Ins) -> (u32, Vec<f64>) {
-        let mut out = vec![0.0; self.gives.room()];
+        let mut out = vec![0.0; self.gives.room(ins)];
         let status = side.call(ins, Lent::to_write(&mut out));
         (status, out)
     }

