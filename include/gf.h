@@ -76,7 +76,7 @@
 #include <stdint.h>
 
 /* The second number rises with each change of what a function takes or answers, the third with any other. */
-#define GF_VERSION "0.14.0"
+#define GF_VERSION "0.17.0"
 
 /* The limits of a volume's count of planes, and of a view's. */
 #define GF_FEWEST_PLANES 6
