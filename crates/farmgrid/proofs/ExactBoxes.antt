@@ -12,7 +12,7 @@ use lib.ListN.{length}
 use lib.IntN.{ℤ, pos, natAbs, _+ℤ_, _-ℤ_, _*ℤ_}
 use lib.Signed.{leZ, _≤ℤ_}
 use Rattle.number.specs.Limits.{gridLimit, fewestPlanes}
-use Rattle.number.specs.Answer.{Outcome, refused, result}
+use Rattle.number.specs.Answer.{Outcome, result}
 use Rattle.number.specs.Every.{every}
 use Rattle.whole.specs.Plane.{WholePlane}
 use Rattle.whole.specs.SegmentCall.{planesOf, viewLength, countOf, planeWithin}

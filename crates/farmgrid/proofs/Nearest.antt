@@ -1,33 +1,32 @@
 -- The nearest range and those within a distance are the exact ones: squared distances of grid points are whole numbers, whose order floats keep. Assumes nothing.
 use mathlib.Core.Path.{_≡_, refl, sym, ap, _∙_, subst}
 use mathlib.Core.Bool.{Bool, true, false, not, _&&_}
-use mathlib.Core.List.{List, List·Memᴰ}
+use mathlib.Core.List.{List}
 use mathlib.Core.Logic.{_↔_, Iff·trans}
-use Prim.Native.Nat.{ℕ, _*_, _/_, _%_, _≤_, _<_}
+use Prim.Native.Nat.{ℕ, _*_, _%_, _≤_, _<_}
 use native.Mathlib.Omega.{arith}
 use borrow.Author.Tests.{eq-eqb, lt-ltb}
-use lib.Dec.{T, leb, eqb, ltb, le→leb}
+use lib.Dec.{T, leb, le→leb}
 use lib.ListN.{length}
 use lib.IntN.{ℤ}
-use lib.Signed.{_≤ℤ_, _<ℤ_}
+use lib.Signed.{_≤ℤ_}
 use lib.Ieee.{Float, lt, le, isNan}
 use lib.Ieee.Bits.{is-true}
 use Rattle.number.specs.Limits.{pointLength, rangeLength}
 use Rattle.number.specs.Slots.{slotsOf}
-use Rattle.number.specs.Answer.{Outcome, refused, result, unless, has, answering}
+use Rattle.number.specs.Answer.{refused, result, unless, has, answering}
 use Rattle.matrix.specs.Vec.{vec3Of}
-use Rattle.matrix.specs.Range.{isEmpty, distanceSquared}
-use Rattle.number.specs.Answer.{Found, nowhere, found}
+use Rattle.matrix.specs.Range.{isEmpty}
 use Rattle.nearest.specs.Nearest.{mostRanges, rangeCount, rangeAt, areRanges, distanceAt, isCandidate, isWithin, nearestOf, placesWithin}
-use Rattle.nearest.specs.Calls.{nearestCall, Listing, listing, withinCall}
+use Rattle.nearest.specs.Calls.{nearestCall, listing, withinCall}
 use Rattle.nearest.specs.Meaning.{IsNearest, AreWithin}
 use Rattle.nearest.proofs.Meaning.{nearest-means, none-means, within-means}
 use Rattle.farmgrid.specs.Whole.{Whole}
 use Rattle.farmgrid.specs.Placement.{NonEmpty}
 use Rattle.farmgrid.specs.Records.{PointRecord}
-use Rattle.farmgrid.specs.Nearest.{squareTo, RangeRecords, ExactlyNearest, NearestExact, ExactlyWithin, WithinExact}
+use Rattle.farmgrid.specs.Nearest.{squareTo, RangeRecords, ExactlyNearest, NearestExact, WithinExact}
 use Rattle.farmgrid.proofs.Exact.{lt-whole, le-whole, whole-not-nan}
-use Rattle.farmgrid.proofs.WholeRanges.{emptyℤ, empty-whole, nonempty-is}
+use Rattle.farmgrid.proofs.WholeRanges.{empty-whole, nonempty-is}
 use Rattle.farmgrid.proofs.RangeDistance.{range-distance-whole}
 
 -- a test that does not hold is false, and the other way about

@@ -1,13 +1,13 @@
 -- The squared distance from a grid point to a range with grid corners is exact: each difference is at most 2 ^ 17 in size, its square at most 2 ^ 34, and three
 -- of these add up to less than 2 ^ 53. Assumes nothing.
-use mathlib.Core.Path.{_≡_, refl, sym, ap, _∙_, subst}
+use mathlib.Core.Path.{_≡_, sym, subst}
 use mathlib.Core.Bool.{Bool, true, false, cond}
-use Prim.Native.Nat.{ℕ, _+_, _*_, _^_, _≤_, _<_}
+use Prim.Native.Nat.{ℕ, _+_, _*_, _≤_, _<_}
 use lib.Dec.{T, lit<, lit≤}
-use lib.IntN.{ℤ, pos, natAbs, _+ℤ_, _-ℤ_, _*ℤ_}
+use lib.IntN.{ℤ, pos, _-ℤ_, _*ℤ_}
 use lib.Signed.{ltZ, ltZ-yes}
 use lib.Ieee.{Float, lt}
-use Rattle.number.specs.Arithmetic.{_⊖_, _⊗_, _⊕_}
+use Rattle.number.specs.Arithmetic.{_⊖_}
 use Rattle.number.specs.Limits.{gridLimit}
 use Rattle.matrix.specs.Constants.{positiveZero}
 use Rattle.matrix.specs.Vec.{axis}

@@ -2,7 +2,7 @@
 use mathlib.Core.Path.{_≡_, refl, sym, ap, _∙_, subst}
 use mathlib.Core.Bool.{Bool, true, false, _&&_}
 use mathlib.Core.List.{List}
-use Prim.Native.Nat.{ℕ, _*_, _/_, _%_, _≤_, _<_}
+use Prim.Native.Nat.{ℕ, _*_, _%_, _≤_}
 use native.Mathlib.Omega.{arith}
 use borrow.Author.Tests.{eq-eqb, ne-eqb, eqb-true}
 use lib.Dec.{T, eqb, leb, ltb, leb→le}
@@ -13,7 +13,6 @@ use Rattle.number.specs.Limits.{pointLength, rangeLength}
 use Rattle.number.specs.Slots.{unused, slotsOf}
 use Rattle.number.proofs.Tests.{both-hold}
 use Rattle.matrix.specs.Vec.{vec3Of}
-use Rattle.matrix.specs.declared.vec.Vec3d.{Vec3d}
 use Rattle.nearest.specs.Nearest.{mostRanges, rangeCount, areRanges, nearestOf, placesWithin}
 use Rattle.nearest.specs.Calls.{nearestCall, listing, withinCall}
 use Rattle.nearest.specs.Steps.{placeNumber}

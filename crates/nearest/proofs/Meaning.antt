@@ -1,20 +1,19 @@
 -- What the answers mean (`specs/Meaning.antt`): by the search for the least, and by induction over the places below a limit. Assumes nothing.
-use mathlib.Core.Path.{_≡_, refl, sym, ap, _∙_, subst}
+use mathlib.Core.Path.{_≡_, refl, sym, subst}
 use mathlib.Core.Bool.{Bool, true, false, cond}
-use mathlib.Core.Logic.{_↔_, _⊎_, inl, inr}
+use mathlib.Core.Logic.{_⊎_, inl, inr}
 use mathlib.Core.List.{List, [], _∷_, _++_, append-nil, List·Memᴰ, List·Memᴰ·head, List·Memᴰ·tail, Memᴰ·append-left, Memᴰ·append-right, List·Memᴰ·append-cases, List·Memᴰ·eq-of-singleton, List·Memᴰ·not-nil}
 use Prim.Native.Nat.{ℕ, zero, suc, _+_, _<_}
 use native.Mathlib.Omega.{arith}
 use lib.Dec.{T}
-use lib.ListN.{length}
-use lib.Ieee.{Float, lt, le}
-use lib.Ieee.Bits.{is-true, is-false}
+use lib.Ieee.{Float, lt}
+use lib.Ieee.Bits.{is-true}
 use Rattle.number.proofs.Comparisons.{refuted, lt-not-le, not-less}
 use Rattle.matrix.specs.declared.vec.Vec3d.{Vec3d}
 use Rattle.number.specs.Answer.{Found, nowhere, found}
-use Rattle.number.specs.Places.{placesBelow, countBelow, firstOf}
+use Rattle.number.specs.Places.{placesBelow}
 use Rattle.nearest.specs.Nearest.{rangeCount, distanceAt, isCandidate, isNearer, isNearest, isWithin, nearestOf, placesWithin}
-use Rattle.nearest.specs.Meaning.{IsNearest, NearestMeans, NoneMeans, Rising, AreWithin, WithinMeans}
+use Rattle.nearest.specs.Meaning.{IsNearest, NearestMeans, NoneMeans, Rising, WithinMeans}
 use Rattle.number.proofs.PlacesBelow.{as-many, below-or-last}
 use Rattle.nearest.proofs.First.{Best, Searched, finds, searched}
 use Rattle.nearest.proofs.Distances.{a-number, one-way, through}

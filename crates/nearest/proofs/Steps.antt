@@ -2,20 +2,18 @@
 use mathlib.Core.Path.{_≡_, refl, sym, ap, _∙_, subst}
 use mathlib.Core.Bool.{Bool, true, false, not, cond, _&&_, _||_}
 use mathlib.Core.List.{List}
-use Prim.Native.Nat.{ℕ, _+_, _≤_, _<_}
+use Prim.Native.Nat.{ℕ, _+_, _<_}
 use native.Mathlib.Omega.{arith}
 use borrow.Author.Tests.{eq-eqb, ne-eqb}
 use lib.Dec.{eqb}
 use lib.Ieee.{Float, lt, isNan}
-use Rattle.matrix.specs.Range.{isEmpty, distanceSquared}
+use Rattle.matrix.specs.Range.{isEmpty}
 use Rattle.matrix.specs.declared.vec.Vec3d.{Vec3d}
-use Rattle.matrix.specs.declared.range.Range3d.{Range3d}
 use Rattle.nearest.specs.declared.nearest.Nearest.{Nearest}
 use Rattle.number.specs.Slots.{unused}
 use Rattle.number.specs.Answer.{Found, nowhere, found}
-use Rattle.number.specs.Places.{firstOf, placesBelow}
 use Rattle.nearest.specs.Steps.{placeNumber}
-use Rattle.nearest.specs.Nearest.{mostRanges, rangeCount, rangeAt, distanceAt, isCandidate, isNearer, isNearest, nearestOf}
+use Rattle.nearest.specs.Nearest.{rangeCount, rangeAt, distanceAt, isCandidate, isNearer, isNearest, nearestOf}
 use Rattle.nearest.specs.Steps.{withRange}
 use Rattle.nearest.proofs.First.{Searched, skipped, begun, kept, moved, finds}
 use Rattle.nearest.proofs.Distances.{one-way, through}

@@ -23,13 +23,13 @@ pub record IsNearest (s : List Float) (p : Vec3d) (i : ℕ) : Type 0 where
 abbrev pub NearestMeans : Type 0
 NearestMeans = (s : List Float) (p : Vec3d) (i : ℕ) → (nearestOf s p ≡ found i) ↔ IsNearest s p i
 
--- "If nowhere is left return nowhere."
+-- "If none is left return none."
 abbrev pub NoneMeans : Type 0
 NoneMeans = (s : List Float) (p : Vec3d) → (nearestOf s p ≡ nowhere) ↔ ((i : ℕ) → i < rangeCount s → T (isCandidate s p i) → ⊥)
 
 -- ---- those within a distance
 
--- each is below all that follow it, so that nowhere stands twice
+-- each is below all that follow it, so that none stands twice
 abbrev pub Rising : List ℕ → Type 0
 Rising [] = Unit {0}
 Rising (i ∷ is) = ((j : ℕ) → List·Memᴰ j is → i < j) × Rising is

@@ -1,5 +1,4 @@
 -- `nearest::is_within` meets its contract: both tests by what they promise. Assumes nothing.
-use mathlib.Core.Path.{_≡_}
 use mathlib.Core.Bool.{not, _&&_}
 use lib.Ieee.{le}
 use Rattle.nearest.proofs.nearest.is_within.Statement.{statement}

@@ -1,11 +1,8 @@
 -- `nearest::search` meets its contract: what is known of the place found is kept from range to range. Assumes nothing.
-use mathlib.Core.Path.{_≡_, refl, sym, ap, _∙_, subst}
-use Prim.Native.Nat.{ℕ, _+_, _-_, _*_, _/_, _≤_, _<_}
+use mathlib.Core.Path.{refl, sym, ap, _∙_, subst}
+use Prim.Native.Nat.{ℕ, _+_, _-_, _≤_}
 use native.Mathlib.Omega.{arith}
-use borrow.Author.Needs.{needs}
-use Rattle.nearest.specs.declared.nearest.Nearest.{Nearest}
 use Rattle.matrix.specs.declared.range.Range3d.{Range3d}
-use Rattle.nearest.specs.Nearest.{rangeCount}
 use Rattle.nearest.specs.Steps.{withRange}
 use Rattle.nearest.proofs.Steps.{Held, at-first, next, at-last}
 use Rattle.nearest.proofs.nearest.search.Statement.{statement}

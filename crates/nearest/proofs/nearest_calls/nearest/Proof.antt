@@ -1,5 +1,5 @@
 -- `nearest_calls::nearest` meets its contract: each way out is the call's. Assumes nothing.
-use mathlib.Core.Path.{_≡_, sym, ap, _∙_}
+use mathlib.Core.Path.{sym, ap, _∙_}
 use native.Mathlib.Omega.{arith}
 use borrow.Author.Tests.{not-true, not-false}
 use Rattle.matrix.specs.declared.vec.Vec3d.{Vec3d}

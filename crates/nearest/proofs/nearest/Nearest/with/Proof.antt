@@ -1,10 +1,9 @@
 -- `nearest::Nearest::with` meets its contract: each way out is one of the definition's. Assumes nothing.
-use mathlib.Core.Path.{_≡_, refl, sym, ap, _∙_, subst}
+use mathlib.Core.Path.{_≡_, refl, sym, ap, _∙_}
 use mathlib.Core.Bool.{Bool, true, false, cond, _||_}
 use Prim.Native.Nat.{ℕ}
 use lib.Dec.{eqb}
 use lib.Ieee.{Float, lt, ne, isNan}
-use lib.Ieee.Bits.{is-true}
 use Rattle.number.proofs.Nan.{is-nan, not-nan}
 use Rattle.matrix.specs.Range.{isEmpty, distanceSquared}
 use Rattle.matrix.specs.declared.vec.Vec3d.{Vec3d}
