@@ -2,7 +2,7 @@
 -- these two is whole, so that what comes back is whole, and is the number itself just where that was whole. Assumes nothing.
 use mathlib.Core.Path.{_≡_, refl, sym, ap, subst, _∙_}
 use mathlib.Core.Logic.{_⊎_, inl, inr}
-use mathlib.Core.Bool.{Bool, true, false, not, cond, _&&_, _||_, Bool·beq, true≢false}
+use mathlib.Core.Bool.{Bool, true, false, cond, _&&_, _||_, Bool·beq, true≢false}
 use Prim.Native.Nat.{ℕ, zero, suc, _+_, _-_, _*_, _/_, _%_, _^_, min, _≤_, _<_}
 use native.Mathlib.Nat.{le-trans, mul-pos, le-div-iff-mul-le, div-lt-iff-lt-mul, eq-of-mul-eq-mul-right, eq-zero-or-pos, pow-suc}
 use native.Mathlib.Omega.{arith}
