@@ -41,4 +41,5 @@ pub mod RoundedOrder
 pub mod Monotone
 pub mod RootBracket
 pub mod SumFromZero
+pub mod RoundingError
 pub mod Commutative

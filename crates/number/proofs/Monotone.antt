@@ -95,7 +95,7 @@ mul-finite-both (fin s m e) (fin t n d) h = (tt, tt)
 
 module _ (s t : Bool) (X dx Y dy : ℕ) where
   -- a sum, as a rounded difference
-  total : Rounds (sum binary64 s (X * dy) t (Y * dx) (dx * dy)) (over-zero s X * dy + over-zero t Y * dx) (under-zero s X * dy + under-zero t Y * dx) (dx * dy)
+  pub total : Rounds (sum binary64 s (X * dy) t (Y * dx) (dx * dy)) (over-zero s X * dy + over-zero t Y * dx) (under-zero s X * dy + under-zero t Y * dx) (dx * dy)
   unfolding sum
   total = go s t
     where
