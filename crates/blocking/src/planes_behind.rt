@@ -7,8 +7,8 @@ ghost use Rattle.verdict.specs.View.{planesOf};
 ghost use Rattle.verdict.specs.Steps.Passes.{HasPlanes};
 ghost use Rattle.blocking.specs.PlanesBehind.{blockingPlanes};
 use verdict::bbox::BBox3d;
-use verdict::frustum::into_space;
 use verdict::plane::Plane;
+use verdict::space::into_space;
 use verdict::space::reaches_in_space;
 use verdict::view::plane_start;
 

@@ -14,7 +14,7 @@ ghost use Rattle.verdict.specs.Frustum.{pointInView, crossing, startCut,
 use crate::bbox::BBox3d;
 use crate::gathered;
 use crate::plane::Plane;
-use crate::reach::holds_origin;
+use crate::reach::extent;
 use crate::rows::Rows;
 use crate::rows::plane_in;
 use crate::view::all_planes;
@@ -154,16 +154,15 @@ pub(crate) fn intersects_segment(view: &[f64], count: u32, a: Vec3d, b: Vec3d) -
     ensures { λ r. ⌜ r ≡ segmentInView (planesOf (now (view .entry)) count) a b ⌝ }
 {
     if count == FEWEST_PLANES {
-        let a_sides = gathered::sides(view, FEWEST_PLANES, a);
-        let b_sides = gathered::sides(view, FEWEST_PLANES, b);
-        return segment_left(view, FEWEST_PLANES, a, a_sides, b, b_sides);
+        let sides = gathered::end_sides(view, FEWEST_PLANES, a, b);
+        return segment_left(view, FEWEST_PLANES, a, sides.a, b, sides.b);
     }
     let sides = gathered::end_sides(view, count, a, b);
     segment_left(view, count, a, sides.a, b, sides.b)
 }
 
 // The matrix that carries planes into the space of a box; a degenerate box is taken as if its matrix were the identity.
-pub fn into_space(b: BBox3d) -> Mat4d
+fn into_space(b: BBox3d) -> Mat4d
     ensures { λ r. ⌜ r ≡ intoSpaceOf b ⌝ }
 {
     if b.is_degenerate() {
@@ -182,10 +181,10 @@ pub(crate) fn intersects_bbox(rows: &Rows, count: u32, b: BBox3d) -> bool
         return false;
     }
     let into = into_space(b);
-    let about_origin = holds_origin(range);
+    let extent = extent(range);
     let mut i: u32 = 0;
     while i < count {
-        if !plane_in(rows, i).reaches_under(into, range, about_origin) {
+        if !plane_in(rows, i).reaches_under(into, range, extent) {
             return false;
         }
         i += 1;

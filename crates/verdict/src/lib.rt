@@ -6,7 +6,6 @@ mod finite;
 pub mod frustum;
 pub mod frustum_calls;
 mod gathered;
-mod interval;
 pub mod plane;
 pub mod plane_calls;
 pub mod ray;

@@ -33,10 +33,10 @@ module _ (ps : List Plane) (b : BBox3d) (z : Bool) (q : z ≡ isEmpty (b .range)
   a-range m e h = ap (λ (n : Mat4d). every (test n (b .range)) ps) h ∙ sym (ap (λ (t : Bool). not t && every (test (intoSpaceOf b) (b .range)) ps) (sym q ∙ e))
 
 abbrev Inv-loop : tie.InvT-loop
-Inv-loop rows count range into about-origin i₀ i = (i ≤ count) × (every (test into range) (drop i (planesInRows rows count)) ≡ every (test into range) (planesInRows rows count))
+Inv-loop rows count range into extent i₀ i = (i ≤ count) × (every (test into range) (drop i (planesInRows rows count)) ≡ every (test into range) (planesInRows rows count))
 
 abbrev μ-loop : tie.MeasureT-loop
-μ-loop rows count range into about-origin i₀ i = count - i
+μ-loop rows count range into extent i₀ i = count - i
 
 returns : tie.Need-returns Inv-loop μ-loop
 returns c = no-range _ _ _ (c .before .is-empty .ensures) (c .if1 .taken)
@@ -44,8 +44,8 @@ returns c = no-range _ _ _ (c .before .is-empty .ensures) (c .if1 .taken)
 loop-holds : tie.Need-loop-holds Inv-loop μ-loop
 loop-holds c = (omega arith, refl)
 
-about : tie.Need-reaches-under-requires Inv-loop μ-loop
-about c κs = c .before .before .before .holds-origin .ensures
+held : tie.Need-reaches-under-requires Inv-loop μ-loop
+held c κs = c .before .before .before .extent .ensures
 
 returns-2 : tie.Need-returns-2 Inv-loop μ-loop
 returns-2 c =
@@ -88,4 +88,4 @@ returns-3 c =
 pub intersects-bbox-spec : {M : Type 1} → statement M
 intersects-bbox-spec =
     tie.close
-    (tie.spec Inv-loop μ-loop (λ c κs. tt) returns (λ c κs. tt) (λ c κs. tt) loop-holds (λ c κs. omega arith) about returns-2 add-i loop-less loop-again returns-3)
+    (tie.spec Inv-loop μ-loop (λ c κs. tt) returns (λ c κs. tt) (λ c κs. tt) loop-holds (λ c κs. omega arith) held returns-2 add-i loop-less loop-again returns-3)
