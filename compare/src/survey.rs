@@ -221,7 +221,7 @@ fn box_roots(view: &Volume, block: &Boxed) -> Vec<f64> {
     let mut roots = vec![];
     for plane in rust::planes(view.numbers()).planes {
         let carried = into.transform_homogeneous(plane.equation());
-        if !origin_settles(block.range(), carried) && !bounds_settle(block.range(), carried) {
+        if !filter_settles(block.range(), carried) {
             let normal = [carried.x, carried.y, carried.z];
             roots.push(dot(normal, normal));
         }
@@ -232,43 +232,20 @@ fn box_roots(view: &Volume, block: &Boxed) -> Vec<f64> {
     roots
 }
 
-// The engine's own rules for planes whose normal's length is not needed.
-
-fn near(x: f64) -> bool {
-    x.abs() < 1e18
-}
-
-/// `holdsOrigin` and `originAhead` of crates/verdict/specs/Origin.antt: a range
-/// holds the origin and the plane has the origin on its positive side.
-fn origin_settles(range: gf::Range3d, carried: gf::Vec4d) -> bool {
+/// The engine's own rule for planes whose normal's length is not needed:
+/// `filteredOf` of crates/verdict/specs/Steps/Filter.antt is trusted and tells
+/// the side.
+fn filter_settles(range: gf::Range3d, carried: gf::Vec4d) -> bool {
     let (min, max) = (range.min(), range.max());
-    let holds_origin = (0..3).all(|i| min[i] <= 0.0 && 0.0 <= max[i] && near(max[i]));
-    holds_origin && 0.0 <= carried.w && rust::of_homogeneous(carried).into_iter().all(near)
-}
-
-/// `boundsOf` of crates/verdict/specs/Bounds.antt: bounds of the length, by
-/// half of the bits of its square, tell distance and reach apart. They are not
-/// made of a normal that is of unit length already.
-fn bounds_settle(range: gf::Range3d, carried: gf::Vec4d) -> bool {
     let normal = [carried.x, carried.y, carried.z];
+    let terms: [_; 3] = array::from_fn(|i| normal[i] * if normal[i] >= 0.0 { max[i] } else { min[i] });
+    let estimate = terms[0] + terms[1] + terms[2] + carried.w;
+    let extent: f64 = (0..3).map(|i| min[i].abs()).chain((0..3).map(|i| max[i].abs())).sum();
     let square = dot(normal, normal);
-    if (square - 1.0).abs() < 7e-9 {
-        return false;
-    }
-    let high = f64::from_bits(square.to_bits() / 2 % (1 << 62) + 0x1ff8_0000_0000_0001);
-    let low = high * 0.9375;
-    let sorted = |a: f64, b: f64| [a.min(b), a.max(b)];
-    let over = |x: f64| sorted(x / high, x / low);
-    let scaled = |[a, b]: [f64; 2], factor: f64| sorted(a * factor, b * factor);
-    let unit = normal.map(|n| scaled(over(1.0), n));
-    let (min, max) = (range.min(), range.max());
-    let terms: [_; 3] = array::from_fn(|i| scaled(unit[i], if unit[i][0] >= 0.0 { max[i] } else { min[i] }));
-    let reach = [0, 1].map(|end| terms[0][end] + terms[1][end] + terms[2][end]);
-    let distance = over(-carried.w);
-    let brackets = 1e-10 < low && low < high && high < 1e18 && low * low < square && square < high * high;
-    let one_sided = unit.iter().all(|&[a, b]| 0.0 <= a || b < 0.0);
-    let hold = brackets && one_sided && reach.into_iter().chain(distance).all(near);
-    hold && (distance[1] <= reach[0] || reach[1] < distance[0])
+    let size = extent * (3.0 + square) + carried.w.abs();
+    let error = size * 1e-11;
+    let trusted = extent < 1e18 && 1e-9 * 1e-9 < square && square < 1e18 * 1e18 && 1e-90 < size && size < 1e90;
+    trusted && (error <= estimate || estimate < -error)
 }
 
 /// Of the normal of a plane through three points.
