@@ -11,10 +11,11 @@ use lib.Seq.{take-at}
 use Rattle.number.specs.Limits.{largestFile}
 use Rattle.number.specs.Answer.{Outcome, refused, result, unless}
 use Rattle.verdict.specs.View.{isCount}
+use Rattle.group.specs.Batch.{slotOf}
 use Rattle.farm.specs.Directory.{sectionCount, boxSections, wellFormed}
 use Rattle.number.specs.Slots.{unused}
 use Rattle.number.proofs.Filled.{length-slots}
-use Rattle.farm.specs.FarmFile.{volumeThere, countNumber, sized, allFlagged, numbersFinite, inView, checked, farmFile, slotCount, slotOf, slots, Listing, listing, listed, farmFileCall}
+use Rattle.farm.specs.FarmFile.{volumeThere, countNumber, sized, allFlagged, numbersFinite, inView, checked, farmFile, slotCount, slots, Listing, listing, listed, farmFileCall}
 use Rattle.farm.specs.Lines.{linesFrom, refusedLine, linesOf, isYes}
 use Rattle.farm.specs.Steps.{Ready}
 use Rattle.farm.proofs.SectionsLeft.{as-many}
@@ -68,7 +69,9 @@ module _ (b : List ℕ) where
       all-passed (leb (length b) largestFile) (wellFormed b) (volumeThere b) (isCount (countNumber b)) (sized b) (allFlagged b) (numbersFinite b) found vs (is ∙ e)
 
   pub ready : (vs : List Bool) → farmFile b ≡ result vs → Ready b
-  ready vs e = let p = answered vs e in record { formed = p .formed; count = p .count; sizes = p .sizes; flags = p .flags; finite = p .finite }
+  ready vs e =
+      let p = answered vs e in
+      record { measured = record { formed = p .formed; count = p .count; sizes = p .sizes }; flags = p .flags; finite = p .finite }
 
   pub verdicts-are : (vs : List Bool) → farmFile b ≡ result vs → vs ≡ map (inView b) (boxSections b)
   verdicts-are vs e = sym (answered vs e .found)

@@ -2,7 +2,9 @@
 pub mod SectionsLeft
 pub mod Placed
 pub mod PlaneCounts
-pub mod Slots
+pub mod Measured
+pub mod Rooms
+pub mod Batch
 pub mod Answers
 pub mod Gaps
 pub mod Texts

@@ -1,6 +1,6 @@
 -- What a farm file comes to: a verdict for each of its boxes, or the number of its refusal; and what a call leaves. Definitions only.
 use Prim.Native.Nat.{ℕ, _-_, _*_}
-use mathlib.Core.Bool.{Bool, cond, _&&_}
+use mathlib.Core.Bool.{Bool, _&&_}
 use mathlib.Core.List.{List, map}
 use lib.Dec.{eqb, leb}
 use lib.ListN.{length}
@@ -15,6 +15,7 @@ use Rattle.verdict.specs.BBox.{boxOf}
 use Rattle.verdict.specs.BBoxCalls.{flagged}
 use Rattle.verdict.specs.View.{volumeLength, wholePart, isCount, planesOf}
 use Rattle.verdict.specs.Frustum.{boxInView}
+use Rattle.group.specs.Batch.{slotOf}
 use Rattle.farm.specs.declared.directory.Section.{Section}
 use Rattle.farm.specs.Directory.{wellFormed, volumeSection, boxSections, sections, numbersOf}
 
@@ -74,9 +75,6 @@ farmFile b = unless (leb (length b) largestFile) (refused 1) (checked b)
 -- A slot for each box that a file can have: 1 for a box in view, 0 for one that is not, and 4,294,967,295 where there is none.
 abbrev pub slotCount : ℕ
 slotCount = mostSections - 1
-
-abbrev pub slotOf : Bool → ℕ
-slotOf v = cond v 1 0
 
 abbrev pub slots : List Bool → List ℕ
 slots vs = slotsOf slotCount (map slotOf vs)

@@ -3,15 +3,12 @@ ghost use mathlib.Core.Path.{_≡_};
 ghost use Rattle.number.specs.Answer.{countedOf};
 ghost use Rattle.farm.specs.FarmFile.{listing, farmFileCall};
 use crate::directory::is_well_formed;
-use crate::sections::are_finite;
-use crate::sections::are_flagged;
+use crate::sections::answer;
 use crate::sections::are_sized;
-use crate::sections::file_slots;
 use crate::sections::has_volume;
 use crate::sections::plane_count;
 use number::answer::Counted;
 use number::answer::Refusal;
-use number::bytes::word_32;
 use number::limits::LARGEST_FILE;
 use number::limits::MOST_SECTIONS;
 
@@ -41,12 +38,5 @@ pub fn farm_file(file: &[u8], out: &mut [u32]) -> Counted
     if !are_sized(file, planes) {
         return Counted::Refused(Refusal::SectionLength);
     }
-    if !are_flagged(file) {
-        return Counted::Refused(Refusal::Kind);
-    }
-    if !are_finite(file) {
-        return Counted::Refused(Refusal::MissingNumber);
-    }
-    file_slots(file, planes, out);
-    Counted::Count(word_32(file, 0) - 1)
+    answer(file, planes, out)
 }

@@ -1,20 +1,19 @@
 -- What is told of the boxes of a file that has passed every check: the numbers of its sections as they are loaded, the planes that a box is behind by their bits, and the
 -- lines, one more at a time. Assumes nothing.
 use mathlib.Core.Path.{_≡_, refl, sym, ap, subst, _∙_}
-use mathlib.Core.Bool.{Bool, true, false, cond}
+use mathlib.Core.Bool.{Bool, true, false}
 use mathlib.Core.List.{List, [], _∷_, _++_, append-nil}
 use Prim.Native.Nat.{ℕ, zero, suc, _+_, _-_, _*_, _/_, _≤_, _<_}
 use native.Mathlib.Omega.{arith}
-use borrow.Author.Tests.{le-leb, eq-eqb, ne-eqb, eqb-true}
+use borrow.Author.Tests.{eq-eqb, ne-eqb, eqb-true}
 use lib.Dec.{T, eqb, ltb}
 use lib.ListN.{length, length-append, length-drop, length-map, take, drop, drop-of-length-le}
-use lib.Seq.{length-take-le, take-all, take-at}
+use lib.Seq.{take-all, take-at}
 use lib.Ieee.{Float}
 use Rattle.number.specs.Limits.{boxLength, mostPlanes}
 use Rattle.number.specs.Answer.{Outcome, refused, result}
 use Rattle.number.specs.Places.{placesBelow}
-use Rattle.number.specs.Bytes.{numbersAt, loaded}
-use Rattle.number.proofs.Words.{all-there, as-many}
+use Rattle.number.proofs.Words.{as-many}
 use Rattle.number.proofs.PlacesBelow.{next-fails}
 use Rattle.matrix.specs.Range.{isEmpty}
 use Rattle.verdict.specs.declared.plane.Plane.{Plane}
@@ -36,8 +35,9 @@ use Rattle.farm.specs.Directory.{sectionCount, sectionAt, sectionsFrom, volumeS
 use Rattle.farm.specs.FarmFile.{planeCount, inView, farmFile}
 use Rattle.farm.specs.Steps.{Ready}
 use Rattle.farm.proofs.SectionsLeft.{as-many as as-many-sections, last-section}
-use Rattle.farm.proofs.Placed.{at-least, at-most, placed, volume-sized, box-sized, box-flagged, section-finite}
-use Rattle.farm.proofs.Slots.{within, volume-length, held}
+use Rattle.farm.proofs.Placed.{at-least, at-most, volume-sized, box-sized, box-flagged, section-finite}
+use Rattle.farm.proofs.Measured.{within, volume-length, held}
+use Rattle.farm.proofs.Rooms.{taken-is, loaded-is}
 use Rattle.farm.specs.Lines.{decimal, refusedWord, refusedLine, linesOf, Puts}
 use Rattle.farm.proofs.Answers.{Told, ready, verdicts-are}
 use Rattle.farm.proofs.Texts.{put-then, put-meant, put-length, has-room, in-front, short-decimal}
@@ -77,10 +77,10 @@ module _ (b : List ℕ) (r : Ready b) where
   many-planes = as-many-planes (planeAt (volumeOf b)) (planeCount b)
 
   some-planes : 0 < length (planesIn b)
-  some-planes = omega (arith, many-planes, within b r)
+  some-planes = omega (arith, many-planes, within b (r .measured))
 
   few-planes : length (planesIn b) ≤ mostPlanes
-  few-planes = omega (arith, many-planes, within b r)
+  few-planes = omega (arith, many-planes, within b (r .measured))
 
   -- the volume's numbers, in front of a room
   module _ (room : List Float) (h : volumeLength mostPlanes ≤ length room) where
@@ -88,34 +88,26 @@ module _ (b : List ℕ) (r : Ready b) where
     s = volumeSection b
 
     numbers : s .size / 8 ≡ volumeLength (planeCount b)
-    numbers = omega (arith, volume-sized b (r .sizes))
+    numbers = omega (arith, volume-sized b (r .measured .sizes))
 
     fits : s .size / 8 ≤ length room
-    fits = omega (arith, numbers, within b r, h)
-
-    front : loaded b (s .offset) (take (s .size / 8) room) ≡ numbersOf b s
-    front =
-        let m = length-take-le (s .size / 8) room fits in
-        let e = placed b (r .formed) 0 (omega (arith, at-least b (r .formed))) .1 in
-        all-there b (s .offset) (take (s .size / 8) room) (omega (arith, m, numbers, volume-sized b (r .sizes), e)) ∙ ap (numbersAt b (s .offset)) m
+    fits = omega (arith, numbers, within b (r .measured), h)
 
     pub volume-taken : roomTaken s room ≡ volumeLength (planeCount b)
-    volume-taken = ap (λ (z : Bool). cond z (s .size / 8) 0) (le-leb _ _ fits) ∙ numbers
+    volume-taken = taken-is b (r .measured .formed) 0 (omega (arith, at-least b (r .measured .formed))) room fits ∙ numbers
 
-    loaded-is : sectionLoaded b s room ≡ numbersOf b s ++ drop (s .size / 8) room
-    loaded-is =
-        ap (λ (z : Bool). cond z (loaded b (s .offset) (take (s .size / 8) room) ++ drop (s .size / 8) room) room) (le-leb _ _ fits)
-        ∙ ap (λ (l : List Float). l ++ drop (s .size / 8) room) front
+    front : sectionLoaded b s room ≡ numbersOf b s ++ drop (s .size / 8) room
+    front = loaded-is b (r .measured .formed) 0 (omega (arith, at-least b (r .measured .formed))) room fits
 
     pub volume-fits : (n : ℕ) → n ≡ roomTaken s room → n ≤ length room
-    volume-fits n e = omega (arith, e, volume-taken, within b r, h)
+    volume-fits n e = omega (arith, e, volume-taken, within b (r .measured), h)
 
     pub loaded-long : (n : ℕ) (l : List Float) → n ≡ roomTaken s room → l ≡ sectionLoaded b s room → n ≤ length l
-    loaded-long n l e f = omega (arith, e, volume-taken, ap length (f ∙ loaded-is), length-append (numbersOf b s) (drop (s .size / 8) room), volume-length b r)
+    loaded-long n l e f = omega (arith, e, volume-taken, ap length (f ∙ front), length-append (numbersOf b s) (drop (s .size / 8) room), volume-length b (r .measured))
 
     pub volume-front : (n : ℕ) (l : List Float) → n ≡ roomTaken s room → l ≡ sectionLoaded b s room → take n l ≡ volumeOf b
     volume-front n l e f =
-        ap (take n) (f ∙ loaded-is) ∙ take-at (numbersOf b s) (drop (s .size / 8) room) n (volume-length b r ∙ sym (e ∙ volume-taken))
+        ap (take n) (f ∙ front) ∙ take-at (numbersOf b s) (drop (s .size / 8) room) n (volume-length b (r .measured) ∙ sym (e ∙ volume-taken))
 
   -- a box's numbers, which fill theirs
   module _ (k : ℕ) (p : 0 < k) (h : k < sectionCount b) where
@@ -123,16 +115,12 @@ module _ (b : List ℕ) (r : Ready b) where
     sec = sectionAt b k
 
     twenty-three : sec .size / 8 ≡ boxLength
-    twenty-three = omega (arith, box-sized b (r .sizes) k p h)
+    twenty-three = omega (arith, box-sized b (r .measured .sizes) k p h)
 
     pub box-loaded : (room : List Float) → length room ≡ boxLength → sectionLoaded b sec room ≡ numbersOf b sec
     box-loaded room e =
-        let m : length (take (sec .size / 8) room) ≡ sec .size / 8 = length-take-le (sec .size / 8) room (omega (arith, twenty-three, e)) in
-        let q = placed b (r .formed) k h .1 in
         let rest : drop (sec .size / 8) room ≡ [] = drop-of-length-le room {i = sec .size / 8} (omega (arith, twenty-three, e)) in
-        ap (λ (z : Bool). cond z (loaded b (sec .offset) (take (sec .size / 8) room) ++ drop (sec .size / 8) room) room) (le-leb (sec .size / 8) (length room) (omega (arith, twenty-three, e)))
-        ∙ ap (λ (l : List Float). loaded b (sec .offset) (take (sec .size / 8) room) ++ l) rest ∙ append-nil (loaded b (sec .offset) (take (sec .size / 8) room))
-        ∙ all-there b (sec .offset) (take (sec .size / 8) room) (omega (arith, m, twenty-three, box-sized b (r .sizes) k p h, q)) ∙ ap (numbersAt b (sec .offset)) m
+        loaded-is b (r .measured .formed) k h room (omega (arith, twenty-three, e)) ∙ ap (λ (l : List Float). numbersOf b sec ++ l) rest ∙ append-nil (numbersOf b sec)
 
     -- the call on its record is answered
     asked : result (blockingPlanes (planesIn b) (boxOf (numbersOf b sec))) ≡ blockingPlanesCall (volumeOf b) (numbersOf b sec)
@@ -140,8 +128,8 @@ module _ (b : List ℕ) (r : Ready b) where
         let l = as-many b (sec .offset) (sec .size / 8) ∙ twenty-three in
         let f = box-flagged b (r .flags) k p h in
         let w = section-finite b (r .finite) 0 (omega arith) in
-        let v = box-answered (volumeOf b) (planeCount b) (held b r) w (numbersOf b sec) l f (section-finite b (r .finite) k h) in
-        planes-answered (volumeOf b) (numbersOf b sec) _ (sym v) (planeCount b) _ (held b r) refl
+        let v = box-answered (volumeOf b) (planeCount b) (held b (r .measured)) w (numbersOf b sec) l f (section-finite b (r .finite) k h) in
+        planes-answered (volumeOf b) (numbersOf b sec) _ (sym v) (planeCount b) _ (held b (r .measured)) refl
 
     reason-by : (answer : Outcome Bool) → reasonBy (blockingPlanes (planesIn b) (boxOf (numbersOf b sec))) (isEmpty (boxOf (numbersOf b sec) .range)) answer ≡ reasonOf b sec answer
     reason-by answer =
@@ -215,7 +203,7 @@ all-lines b t i n place l e s = subst (λ (k : ℕ). SectionsPut b k t place l) 
 told-many : (b : List ℕ) (n : ℕ) → Told b n → sectionCount b ≡ n + 1
 told-many b n t =
     let e = t .many ∙ ap length (verdicts-are b (t .verdicts) (t .answer)) ∙ length-map (boxSections b) (inView b) ∙ as-many-sections b 1 (sectionCount b - 1) in
-    omega (arith, e, at-least b (ready b (t .verdicts) (t .answer) .formed))
+    omega (arith, e, at-least b (ready b (t .verdicts) (t .answer) .measured .formed))
 
 pub told-boxes : (b : List ℕ) (n : ℕ) → Told b n → Boxes b n
 told-boxes b n t = record { ready = ready b (t .verdicts) (t .answer); count = told-many b n t }

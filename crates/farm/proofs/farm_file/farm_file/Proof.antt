@@ -1,20 +1,17 @@
 -- `farm_file::farm_file` meets its contract: each check by its test, in their order, and the slots by what it calls. Assumes nothing.
-use mathlib.Core.Path.{_≡_, sym, ap, _∙_}
+use mathlib.Core.Path.{_≡_, sym, _∙_}
 use mathlib.Core.Bool.{Bool, true, false, not}
-use mathlib.Core.List.{List, map}
+use mathlib.Core.List.{List}
 use Prim.Native.Nat.{ℕ, _-_, _<_, _≤_}
-use native.Mathlib.Omega.{arith}
 use borrow.Author.Needs.{needs}
 use borrow.Author.Tests.{le-leb, lt-leb, eq-eqb, ne-eqb, not-true, not-false}
-use lib.ListN.{length, length-map}
+use lib.ListN.{length}
 use Rattle.number.specs.Limits.{largestFile}
-use Rattle.number.specs.Answer.{refused, result}
+use Rattle.number.specs.Answer.{refused}
 use Rattle.verdict.specs.View.{isCount}
-use Rattle.farm.specs.Directory.{sectionCount, boxSections, wellFormed}
-use Rattle.farm.specs.FarmFile.{volumeThere, countNumber, planeCount, sized, allFlagged, numbersFinite, inView, checked, slotCount, slots, listing, listed, farmFileCall}
-use Rattle.farm.proofs.SectionsLeft.{as-many}
-use Rattle.farm.specs.Steps.{countOrZero}
-use Rattle.farm.proofs.Placed.{at-least}
+use Rattle.farm.specs.Directory.{wellFormed}
+use Rattle.farm.specs.FarmFile.{volumeThere, countNumber, planeCount, sized, checked, slotCount, listing, listed, farmFileCall}
+use Rattle.farm.specs.Steps.{countOrZero, boxesSeen}
 use Rattle.farm.proofs.PlaneCounts.{said-whole, none-said, some-said}
 use Rattle.farm.proofs.farm_file.farm_file.Statement.{statement}
 use Rattle.farm.proofs.farm_file.farm_file.Tie as tie
@@ -53,22 +50,10 @@ module _ (b out : List ℕ) where
             unfolding checked
             other-sizes s = rw (← left, w, v, c, s)
 
-            module _ (s : sized b ≡ true) where
-              other-flags : allFlagged b ≡ false → listing (refused 3) out ≡ farmFileCall b out
-              unfolding checked
-              other-flags f = rw (← left, w, v, c, s, f)
-
-              module _ (f : allFlagged b ≡ true) where
-                missing : numbersFinite b ≡ false → listing (refused 13) out ≡ farmFileCall b out
-                unfolding checked
-                missing m = rw (← left, w, v, c, s, f, m)
-
-                all-answered : (n : ℕ) (x : List ℕ) → numbersFinite b ≡ true → n ≡ sectionCount b → x ≡ slots (map (inView b) (boxSections b))
-                    → listing (result (n - 1)) x ≡ farmFileCall b out
-                unfolding checked
-                all-answered n x m e g =
-                    let k = length-map (boxSections b) (inView b) ∙ as-many b 1 (sectionCount b - 1) in
-                    rw (e, g, ← left, w, v, c, s, f, m) (ap (λ (k : ℕ). listing (result k) (slots (map (inView b) (boxSections b)))) (sym k))
+            -- the checks that are left decide
+            measured : sized b ≡ true → listed (boxesSeen b) out ≡ farmFileCall b out
+            unfolding checked
+            measured s = rw (← left, w, v, c, s)
 
 -- a check that was passed, and one that was not
 passed : {r t : Bool} → r ≡ t → not r ≡ false → t ≡ true
@@ -133,48 +118,10 @@ returns-6 c =
     other-sizes (given .file .now) (given .out .now) (room .before .if1 .left) (room .if2 .left) (passed (form .before .is-well-formed .ensures) (form .if3 .left))
     (passed (there .before .has-volume .ensures) (there .if4 .left)) (is-count (given .file .now) (count .before .plane-count .ensures) (count .if5 .left)) (stopped (size .are-sized .ensures) (c .if6 .taken))
 
-are-flagged-requires : tie.Need-are-flagged-requires
-are-flagged-requires c κs =
-    let form = c .before .before .before .before .before .before in
-    (passed (form .before .is-well-formed .ensures) (form .if3 .left), passed (c .before .are-sized .ensures) (c .if6 .left))
-
-returns-7 : tie.Need-returns-7
-returns-7 c =
-    let flag = c .before in
-    let size = flag .before in
-    let count = size .before .before in
-    let there = count .before .before in
-    let form = there .before .before in
-    let room = form .before .before in
-    let given = room .before .before .before .before .args in
-    other-flags (given .file .now) (given .out .now) (room .before .if1 .left) (room .if2 .left) (passed (form .before .is-well-formed .ensures) (form .if3 .left))
-    (passed (there .before .has-volume .ensures) (there .if4 .left)) (is-count (given .file .now) (count .before .plane-count .ensures) (count .if5 .left))
-    (passed (size .before .are-sized .ensures) (size .if6 .left)) (stopped (flag .are-flagged .ensures) (c .if7 .taken))
-
-are-finite-requires : tie.Need-are-finite-requires
-are-finite-requires c κs =
-    let form = c .before .before .before .before .before .before .before .before in
-    passed (form .before .is-well-formed .ensures) (form .if3 .left)
-
-returns-8 : tie.Need-returns-8
-returns-8 c =
-    let finite = c .before in
-    let flag = finite .before in
-    let size = flag .before .before in
-    let count = size .before .before in
-    let there = count .before .before in
-    let form = there .before .before in
-    let room = form .before .before in
-    let given = room .before .before .before .before .args in
-    missing (given .file .now) (given .out .now) (room .before .if1 .left) (room .if2 .left) (passed (form .before .is-well-formed .ensures) (form .if3 .left))
-    (passed (there .before .has-volume .ensures) (there .if4 .left)) (is-count (given .file .now) (count .before .plane-count .ensures) (count .if5 .left))
-    (passed (size .before .are-sized .ensures) (size .if6 .left)) (passed (flag .before .are-flagged .ensures) (flag .if7 .left)) (stopped (finite .are-finite .ensures) (c .if8 .taken))
-
-file-slots-requires : tie.Need-file-slots-requires
-file-slots-requires c κs =
-    let finite = c .before in
-    let flag = finite .before .before in
-    let size = flag .before .before in
+-- what is left of the checks, of a file that has passed those before
+answer-requires : tie.Need-answer-requires
+answer-requires c κs =
+    let size = c .before in
     let count = size .before .before in
     let form = count .before .before .before .before in
     let given = form .before .before .before .before .before .before .args in (
@@ -182,33 +129,23 @@ file-slots-requires c κs =
         formed = passed (form .before .is-well-formed .ensures) (form .if3 .left);
         count = is-count (given .file .now) (count .before .plane-count .ensures) (count .if5 .left);
         sizes = passed (size .before .are-sized .ensures) (size .if6 .left);
-        flags = passed (flag .before .are-flagged .ensures) (flag .if7 .left);
-        finite = passed (finite .before .are-finite .ensures) (finite .if8 .left);
       },
-      (its-count (given .file .now) (count .before .plane-count .ensures) (count .if5 .left), form .before .before .if2 .left),
+      its-count (given .file .now) (count .before .plane-count .ensures) (count .if5 .left),
+      form .before .before .if2 .left,
     )
 
-sub-t19 : tie.Need-sub-t19
-sub-t19 c =
-    let form = c .before .before .before .before .before .before .before .before .before .before .before .before .before .before .before in
-    let given = form .before .before .before .before .before .before .args in
-    omega (arith, c .word-32 .ensures, at-least (given .file .now) (passed (form .before .is-well-formed .ensures) (form .if3 .left)))
-
-returns-9 : tie.Need-returns-9
-returns-9 c =
-    let called = c .before .before .before in
-    let finite = called .before .before in
-    let flag = finite .before .before in
-    let size = flag .before .before in
+returns-7 : tie.Need-returns-7
+returns-7 c =
+    let called = c .before .before in
+    let size = called .before .before in
     let count = size .before .before in
     let there = count .before .before in
     let form = there .before .before in
     let room = form .before .before in
     let given = room .before .before .before .before .args in
-    all-answered (given .file .now) (given .out .now) (room .before .if1 .left) (room .if2 .left) (passed (form .before .is-well-formed .ensures) (form .if3 .left))
-    (passed (there .before .has-volume .ensures) (there .if4 .left)) (is-count (given .file .now) (count .before .plane-count .ensures) (count .if5 .left))
-    (passed (size .before .are-sized .ensures) (size .if6 .left)) (passed (flag .before .are-flagged .ensures) (flag .if7 .left)) _ _
-    (passed (finite .before .are-finite .ensures) (finite .if8 .left)) (c .word-32 .ensures) (called .file-slots .ensures)
+    called .answer .ensures
+    ∙ measured (given .file .now) (given .out .now) (room .before .if1 .left) (room .if2 .left) (passed (form .before .is-well-formed .ensures) (form .if3 .left))
+    (passed (there .before .has-volume .ensures) (there .if4 .left)) (is-count (given .file .now) (count .before .plane-count .ensures) (count .if5 .left)) (passed (size .before .are-sized .ensures) (size .if6 .left))
 
 pub farm-file-spec : {M : Type 1} → statement M
 farm-file-spec =
@@ -224,12 +161,6 @@ farm-file-spec =
     returns-5
     are-sized-requires
     returns-6
-    are-flagged-requires
-    returns-7
-    are-finite-requires
-    returns-8
-    file-slots-requires
-    (λ c κs. tt)
-    sub-t19
+    answer-requires
     (λ c. search needs)
-    returns-9)
+    returns-7)
