@@ -101,7 +101,7 @@ fn load_sections(file: &[u8], room: &mut [f64]) -> usize
     taken
 }
 
-// What a file with so many planes comes to, by the numbers of all its sections: its boxes are a batch, with slots that are left.
+// What a file with so many planes comes to, by the numbers of all its sections: its boxes are a batch, and a slot without a box is cleared.
 fn answer_by(file: &[u8], planes: u32, numbers: &[f64], out: &mut [u32]) -> Counted
     requires { ⌜ Measured (now file) × (planes ≡ planeCount (now file)) ⌝ }
     requires { ⌜ (now numbers ≡ numbersOfAll (now file) (sections (now file))) × (length (now out) ≡ slotCount) ⌝ }

@@ -34,6 +34,14 @@ pub fn word_32(bytes: &[u8], at: usize) -> u32
     half_word(bytes, at) as u32
 }
 
+// The whole number of eight that are all there.
+fn whole_word(bytes: &[u8], at: usize) -> u64
+    requires { ⌜ at + 8 ≤ length (now bytes) ⌝ }
+    ensures { λ r. ⌜ r ≡ wordAt 8 (now (bytes .entry)) at ⌝ }
+{
+    half_word(bytes, at) + 4294967296 * half_word(bytes, at + 4)
+}
+
 // The whole number of eight.
 pub fn word_64(bytes: &[u8], at: usize) -> u64
     ensures { λ r. ⌜ r ≡ wordAt 8 (now (bytes .entry)) at ⌝ }
@@ -44,7 +52,7 @@ pub fn word_64(bytes: &[u8], at: usize) -> u64
     if bytes.len() - 8 < at {
         return 0;
     }
-    half_word(bytes, at) + 4294967296 * half_word(bytes, at + 4)
+    whole_word(bytes, at)
 }
 
 // The number whose pattern they are.
@@ -66,7 +74,7 @@ pub fn load(bytes: &[u8], at: usize, out: &mut [f64])
     }
     let mut i: usize = 0;
     while i < out.len() {
-        out[i] = number_at(bytes, at + 8 * i);
+        out[i] = from_bits(whole_word(bytes, at + 8 * i));
         i += 1;
     }
 }

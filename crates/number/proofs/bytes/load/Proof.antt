@@ -1,9 +1,10 @@
 -- `number::bytes::load` meets its contract: so many numbers from the bytes are in front. Assumes nothing.
-use mathlib.Core.Path.{_≡_, refl}
+use mathlib.Core.Path.{_≡_, refl, ap, _∙_}
 use Prim.Native.Nat.{_≤_, _-_}
 use native.Mathlib.Omega.{arith}
 use borrow.Author.Needs.{needs}
 use lib.ListN.{length, length-set}
+use lib.Ieee.{binary64, ofBits}
 use Rattle.number.proofs.Words.{filled, none-filled, one-more, all-filled, none-there}
 use Rattle.number.proofs.bytes.load.Statement.{statement}
 use Rattle.number.proofs.bytes.load.Tie as tie
@@ -25,10 +26,10 @@ loop-holds c = let given = c .before .before .before .before .args in (omega ari
 
 loop-again : tie.Need-loop-again Inv-loop μ-loop
 loop-again c =
-    let l = c .before .before .loop in
-    let given = c .before .before .before .before .before .before .before .args in (
+    let l = c .before .before .before .loop in
+    let given = c .before .before .before .before .before .before .before .before .args in (
       omega arith,
-      one-more (given .bytes .now) (given .at) (given .out .now) (l .i) (l .out) _ (omega arith) (l .inv .1) (c .number-at .ensures),
+      one-more (given .bytes .now) (given .at) (given .out .now) (l .i) (l .out) _ (omega arith) (l .inv .1) (c .from-bits .ensures ∙ ap (ofBits binary64) (c .before .whole-word .ensures)),
       simp length-set (l .inv .2),
     )
 
@@ -50,6 +51,7 @@ load-spec =
     loop-holds
     (λ c. omega arith)
     (λ c. omega arith)
+    (λ c κs. omega arith)
     (λ c κs. tt)
     (λ c. omega arith)
     (λ c. omega arith)

@@ -1,7 +1,7 @@
--- `number::bytes::word_64` meets its contract by where the bytes end, and its halves. Assumes nothing.
+-- `number::bytes::word_64` meets its contract by where the bytes end, and by what it calls. Assumes nothing.
 use native.Mathlib.Omega.{arith}
 use borrow.Author.Needs.{needs}
-use Rattle.number.proofs.Words.{eight-bytes, not-there}
+use Rattle.number.proofs.Words.{not-there}
 use Rattle.number.proofs.bytes.word_64.Statement.{statement}
 use Rattle.number.proofs.bytes.word_64.Tie as tie
 
@@ -11,12 +11,5 @@ returns c = let given = c .before .before .args in not-there (given .bytes .now)
 returns-2 : tie.Need-returns-2
 returns-2 c = let given = c .before .before .before .args in not-there (given .bytes .now) (given .at) 8 (omega arith)
 
-returns-3 : tie.Need-returns-3
-returns-3 c =
-    let given = c .before .before .before .before .before .args in
-    eight-bytes (given .bytes .now) (given .at) (omega arith) _ _ (c .before .half-word .ensures .0) (c .half-word2 .ensures .0)
-
 pub word-64-spec : {M : Type 1} → statement M
-word-64-spec =
-    tie.close
-    (tie.spec returns (λ c. search needs) returns-2 (λ c κs. search needs) (λ c. search needs) (λ c κs. search needs) (λ c. search needs) (λ c. search needs) returns-3)
+word-64-spec = tie.close (tie.spec returns (λ c. search needs) returns-2 (λ c κs. search needs) (λ c. c .whole-word .ensures))
