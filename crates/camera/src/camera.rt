@@ -1,7 +1,7 @@
 // A camera as a plain value: where it stands and what it sees.
 ghost use mathlib.Core.Path.{_≡_};
 ghost use Rattle.number.specs.Slice.{allFinite, stored};
-ghost use Rattle.camera.specs.Camera.{numbers, toAperture, cameraOf, cameraFrom};
+ghost use Rattle.camera.specs.Camera.{numbers, toAperture, cameraOf, opened, cameraFrom};
 use matrix::inverse::Inverted;
 use matrix::matrix::Mat4d;
 use number::answer::Refusal;
@@ -113,15 +113,14 @@ impl Camera {
         slice::all_finite(&all)
     }
 
-    // The camera of a view, which carries the world into camera space, and a projection. The focal length is given, since the matrices
-    // fix its ratio to the apertures alone.
-    pub fn set_from_view_and_projection(view: Mat4d, projection: Mat4d, focal_length: f32) -> Set
-        ensures { λ r. ⌜ r ≡ cameraFrom view projection «focal_length» ⌝ }
+    // The camera of what the inverse of a view and the recovery of a projection came to.
+    pub(crate) fn opened(inverted: Inverted, recovered: Recovered, focal_length: f32) -> Set
+        ensures { λ r. ⌜ r ≡ opened inverted recovered «focal_length» ⌝ }
     {
-        let Inverted::Matrix(transform) = view.inverse() else {
+        let Inverted::Matrix(transform) = inverted else {
             return Set::Refused(Refusal::Singular);
         };
-        let Recovered::Params(params) = ProjectionParams::from_matrix(projection) else {
+        let Recovered::Params(params) = recovered else {
             return Set::Refused(Refusal::NotAProjection);
         };
         let camera = Camera::seeing(transform, params, focal_length);
@@ -129,6 +128,18 @@ impl Camera {
             return Set::Refused(Refusal::NotFinite);
         }
         Set::To(camera)
+    }
+
+    // The camera of a view, which carries the world into camera space, and a projection. The focal length is given, since the matrices
+    // fix its ratio to the apertures alone.
+    pub fn set_from_view_and_projection(view: Mat4d, projection: Mat4d, focal_length: f32) -> Set
+        ensures { λ r. ⌜ r ≡ cameraFrom view projection «focal_length» ⌝ }
+    {
+        Camera::opened(
+            view.inverse(),
+            ProjectionParams::from_matrix(projection),
+            focal_length,
+        )
     }
 
     // Its numbers, into a slice of 24.

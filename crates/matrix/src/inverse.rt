@@ -49,29 +49,30 @@ fn turned_cofactors(p: Vec4d, q: Vec4d, s: Vec4d) -> Vec4d
 }
 
 impl Mat4d {
-    // The cofactors of each column, which are the rows of the adjugate.
-    pub(crate) fn cofactors0(self) -> Vec4d
+    // The cofactors of each column, which are the rows of the adjugate. They are public, as what follows is, for those who put an inverse together where it is
+    // used: a whole matrix is copied at a call.
+    pub fn cofactors0(self) -> Vec4d
         ensures { λ r. ⌜ r ≡ cofactors self 0 ⌝ }
     {
         let columns = self.transpose();
         cofactors(columns.r1, columns.r2, columns.r3)
     }
 
-    pub(crate) fn cofactors1(self) -> Vec4d
+    pub fn cofactors1(self) -> Vec4d
         ensures { λ r. ⌜ r ≡ cofactors self 1 ⌝ }
     {
         let columns = self.transpose();
         turned_cofactors(columns.r0, columns.r2, columns.r3)
     }
 
-    pub(crate) fn cofactors2(self) -> Vec4d
+    pub fn cofactors2(self) -> Vec4d
         ensures { λ r. ⌜ r ≡ cofactors self 2 ⌝ }
     {
         let columns = self.transpose();
         cofactors(columns.r0, columns.r1, columns.r3)
     }
 
-    pub(crate) fn cofactors3(self) -> Vec4d
+    pub fn cofactors3(self) -> Vec4d
         ensures { λ r. ⌜ r ≡ cofactors self 3 ⌝ }
     {
         let columns = self.transpose();
@@ -90,7 +91,7 @@ impl Mat4d {
     }
 
     // The determinant: the first row times its cofactors, which are the first column of the adjugate.
-    pub(crate) fn determinant_by(self, adjugate: Mat4d) -> f64
+    pub fn determinant_by(self, adjugate: Mat4d) -> f64
         ensures { λ r. ⌜ r ≡ dot4 (entry self 0) (λ i. entry adjugate i 0) ⌝ }
     {
         self.r0.x * adjugate.r0.x
@@ -112,7 +113,7 @@ impl Mat4d {
 
     // An adjugate over its determinant, where that is larger than epsilon in size. The NaN has a test of its own, since
     // the one in `abs` then goes.
-    pub(crate) fn over(self, det: f64, epsilon: f64) -> Inverted
+    pub fn over(self, det: f64, epsilon: f64) -> Inverted
         ensures { λ r. ⌜ r ≡ over epsilon det self ⌝ }
     {
         if det != det {

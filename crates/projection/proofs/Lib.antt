@@ -3,3 +3,4 @@ pub mod Literals
 pub mod Recovery
 pub mod Confirmed
 pub mod Worked
+pub mod Records

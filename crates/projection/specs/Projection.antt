@@ -7,7 +7,8 @@ use mathlib.Core.Bool.{Bool, cond, _&&_}
 use mathlib.Core.List.{List, [], _∷_}
 use lib.Ieee.{Float, lt, le, eq, neg}
 use lib.Ieee.Scale.{finite}
-use Rattle.number.specs.Answer.{Outcome, refused, result}
+use Rattle.number.specs.Limits.{matrixLength}
+use Rattle.number.specs.Answer.{Outcome, refused, result, unless, has}
 use Rattle.number.specs.Arithmetic.{_⊕_, _⊖_, _⊗_, _⊘_, absOf, maxOf}
 use Rattle.number.specs.Every.{everyBelow}
 use Rattle.number.specs.Slice.{at}
@@ -142,6 +143,10 @@ unfoldable pub recovered : Mat4d → Recovered
 recovered m =
     cond (lt (absOf (entry m 2 3 ⊕ one)) tolerance) (confirmed (perspectiveOf m) m)
     (cond (lt (absOf (entry m 2 3)) tolerance) (confirmed (orthographicOf m) m) NotAProjection)
+
+-- of the matrix in a slice; one of another length holds none
+unfoldable pub recoveredFrom : List Float → Recovered
+recoveredFrom s = unless (has matrixLength s) NotAProjection (recovered (matrixOf s))
 
 -- ---- what each answer comes to in paper 01's numbers
 

@@ -5,7 +5,6 @@ ghost use Rattle.projection.specs.ProjectionCalls.{projectionCall, recov
 use crate::projection::Loaded;
 use crate::projection::ProjectionParams;
 use crate::projection::Recovered;
-use matrix::matrix::Mat4d;
 use number::answer::Refusal;
 use number::answer::Written;
 use number::limits::MATRIX_LENGTH;
@@ -38,7 +37,7 @@ pub fn from_matrix(m: &[f64], out: &mut [f64]) -> Written
     if out.len() != PROJECTION_LENGTH {
         return Written::Refused(Refusal::OutputLength);
     }
-    let Recovered::Params(volume) = ProjectionParams::from_matrix(Mat4d::load(m)) else {
+    let Recovered::Params(volume) = ProjectionParams::from_record(m) else {
         return Written::Refused(Refusal::NotAProjection);
     };
     volume.store(out);

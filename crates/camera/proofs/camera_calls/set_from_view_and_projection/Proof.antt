@@ -1,17 +1,30 @@
 -- `camera_calls::set_from_view_and_projection` meets its contract: the lengths by its tests, the result by what it calls. Assumes nothing.
 use mathlib.Core.Path.{_≡_, refl, sym, ap₂, _∙_}
+use mathlib.Core.Bool.{true}
+use mathlib.Core.List.{List}
 use borrow.Author.Needs.{needs}
+use denote.Ref.{now}
 use borrow.Author.Tests.{eq-eqb, ne-eqb}
 use lib.Ieee.{Float}
 use Rattle.number.proofs.Ways.{both, no-input, no-room, left, written, same-reply}
-use Rattle.matrix.specs.declared.matrix.Mat4d.{Mat4d}
-use Rattle.camera.specs.Camera.{cameraFrom, setNumbers, cameraCall}
+use Rattle.number.specs.Limits.{matrixLength}
+use Rattle.number.specs.Answer.{has}
+use Rattle.matrix.specs.Inverse.{inverse}
+use Rattle.matrix.specs.Matrix.{matrixOf}
+use Rattle.matrix.specs.declared.inverse.Inverted.{Inverted}
+use Rattle.projection.specs.Projection.{recoveredFrom}
+use Rattle.projection.specs.declared.projection.Recovered.{Recovered}
+use Rattle.projection.proofs.Records.{of-matrix}
+use Rattle.camera.specs.declared.camera.Set.{Set}
+use Rattle.camera.specs.Camera.{finiteOnly, opened, cameraFrom, setNumbers, cameraCall}
 use Rattle.camera.proofs.camera_calls.set_from_view_and_projection.Statement.{statement}
 use Rattle.camera.proofs.camera_calls.set_from_view_and_projection.Tie as tie
 
--- of the matrices that were read
-of-loaded : (f : Float) {v v' p p' : Mat4d} → v ≡ v' → p ≡ p' → cameraFrom v p f ≡ cameraFrom v' p' f
-of-loaded f = ap₂ (λ (v p : Mat4d). cameraFrom v p f)
+-- of what the inverse and the recovery came to
+found : (view projection : List Float) (f : Float) (i : Inverted) (r : Recovered) (s : Set) → has matrixLength projection ≡ true → i ≡ inverse (matrixOf view)
+    → r ≡ recoveredFrom projection → s ≡ opened i r f → s ≡ cameraFrom (matrixOf view) (matrixOf projection) f
+unfolding cameraFrom
+found view projection f i r s w h k e = e ∙ ap₂ (λ (j : Inverted) (q : Recovered). opened j q f) h (k ∙ of-matrix projection w)
 
 returns : tie.Need-returns
 unfolding cameraCall
@@ -29,30 +42,30 @@ returns-4 : tie.Need-returns-4
 unfolding cameraCall
 returns-4 c =
     let copied = c .before .before in
-    let opened = copied .before .before .before in
-    let found = opened .before .before in
-    let second = found .before in
-    let first = second .before in
-    let tested = first .before in
-    written _ 24 _ _ _ _
-    (both (eq-eqb _ _ (tested .before .before .if1 .left)) (eq-eqb _ _ (tested .before .if2 .left)))
-    (tested .if3 .left) refl (copied .store .ensures)
-    (same-reply setNumbers _
-    (sym (opened .camera .given .1) ∙ found .set-from-view-and-projection .ensures ∙ of-loaded _ (first .load .ensures) (second .load2 .ensures)))
+    let told = copied .before .before .before in
+    let made = told .before .before in
+    let turned = made .before in
+    let read = turned .before in
+    let tested = read .before in
+    let a = tested .before .before .before .before .before .before .args in
+    let whole = eq-eqb _ _ (tested .before .if2 .left) in
+    written _ 24 _ (now (a .out)) _ _ (both (eq-eqb _ _ (tested .before .before .if1 .left)) whole) (tested .if3 .left) refl (copied .store .ensures)
+    (same-reply setNumbers (now (a .out))
+    (sym (told .camera .given .1) ∙ found (now (a .view)) (now (a .projection)) _ _ _ _ whole (turned .inverse .ensures) (read .from-record .ensures) (made .opened .ensures)))
 
 returns-5 : tie.Need-returns-5
 unfolding cameraCall
 returns-5 c =
-    let opened = c .before in
-    let found = opened .before .before in
-    let second = found .before in
-    let first = second .before in
-    let tested = first .before in
-    same-reply setNumbers _
-    (sym (opened .refusal .given .1) ∙ found .set-from-view-and-projection .ensures ∙ of-loaded _ (first .load .ensures) (second .load2 .ensures))
-    ∙ left _ 24 _ _
-    (both (eq-eqb _ _ (tested .before .before .if1 .left)) (eq-eqb _ _ (tested .before .if2 .left)))
-    (tested .if3 .left)
+    let told = c .before in
+    let made = told .before .before in
+    let turned = made .before in
+    let read = turned .before in
+    let tested = read .before in
+    let a = tested .before .before .before .before .before .before .args in
+    let whole = eq-eqb _ _ (tested .before .if2 .left) in
+    same-reply setNumbers (now (a .out))
+    (sym (told .refusal .given .1) ∙ found (now (a .view)) (now (a .projection)) _ _ _ _ whole (turned .inverse .ensures) (read .from-record .ensures) (made .opened .ensures))
+    ∙ left _ 24 _ (now (a .out)) (both (eq-eqb _ _ (tested .before .before .if1 .left)) whole) (tested .if3 .left)
 
 pub set-from-view-and-projection-spec : {M : Type 1} → statement M
 set-from-view-and-projection-spec =

@@ -1,10 +1,11 @@
 -- `projection_calls::from_matrix` meets its contract: the lengths by its tests, the result by what it calls. Assumes nothing.
-use mathlib.Core.Path.{refl, sym, ap, _∙_}
+use mathlib.Core.Path.{refl, sym, _∙_}
 use borrow.Author.Needs.{needs}
 use borrow.Author.Tests.{eq-eqb, ne-eqb}
-use Rattle.projection.specs.Projection.{recovered, recoveredNumbers}
+use Rattle.projection.specs.Projection.{recoveredNumbers}
 use Rattle.projection.specs.ProjectionCalls.{recoveryCall}
 use Rattle.number.proofs.Ways.{no-input, no-room, left, written, same-reply}
+use Rattle.projection.proofs.Records.{of-matrix}
 use Rattle.projection.proofs.projection_calls.from_matrix.Statement.{statement}
 use Rattle.projection.proofs.projection_calls.from_matrix.Tie as tie
 
@@ -26,10 +27,9 @@ returns-3 : tie.Need-returns-3
 unfolding recoveryCall
 returns-3 c =
     let hit = c .before .before in
-    let loaded = hit .before in
-    let tested = loaded .before in
-    same-reply recoveredNumbers _ (sym (c .enum-told .given .1) ∙ hit .from-matrix .ensures ∙ ap recovered (loaded .load .ensures))
-    ∙ left _ 7 _ _ (eq-eqb _ _ (tested .before .if1 .left)) (tested .if2 .left)
+    let tested = hit .before in
+    let whole = eq-eqb _ _ (tested .before .if1 .left) in
+    same-reply recoveredNumbers _ (sym (c .enum-told .given .1) ∙ hit .from-record .ensures ∙ of-matrix _ whole) ∙ left _ 7 _ _ whole (tested .if2 .left)
 
 same-length : tie.Need-same-length
 same-length c = search needs
@@ -40,10 +40,10 @@ returns-4 c =
     let copied = c .before .before in
     let opened = copied .before .before .before in
     let hit = opened .before .before in
-    let loaded = hit .before in
-    let tested = loaded .before in
-    written _ 7 _ _ _ _ (eq-eqb _ _ (tested .before .if1 .left)) (tested .if2 .left) refl (copied .store .ensures)
-    (same-reply recoveredNumbers _ (sym (opened .volume .given .1) ∙ hit .from-matrix .ensures ∙ ap recovered (loaded .load .ensures)))
+    let tested = hit .before in
+    let whole = eq-eqb _ _ (tested .before .if1 .left) in
+    written _ 7 _ _ _ _ whole (tested .if2 .left) refl (copied .store .ensures)
+    (same-reply recoveredNumbers _ (sym (opened .volume .given .1) ∙ hit .from-record .ensures ∙ of-matrix _ whole))
 
 pub from-matrix-spec : {M : Type 1} → statement M
-from-matrix-spec = tie.close (tie.spec returns returns-2 (λ c κs. tt) (λ c κs. tt) enum-known-volume enum-told returns-3 (λ c κs. tt) same-length returns-4)
+from-matrix-spec = tie.close (tie.spec returns returns-2 (λ c κs. tt) enum-known-volume enum-told returns-3 (λ c κs. tt) same-length returns-4)
