@@ -1,6 +1,6 @@
 // Ranges in one slice: the place of the nearest to a point, and the places of those within a distance.
 ghost use mathlib.Core.Path.{_≡_};
-ghost use mathlib.Core.Bool.{_&&_, not};
+ghost use mathlib.Core.Bool.{false, _&&_, not};
 ghost use mathlib.Core.List.{_++_};
 ghost use Prim.Native.Nat.{_+_, _-_, _*_, _≤_};
 ghost use lib.ListN.{length, take, replicate};
@@ -8,11 +8,12 @@ ghost use Rattle.number.specs.Slots.{unused, slotsOf};
 ghost use Rattle.number.specs.Limits.{rangeLength};
 ghost use Rattle.nearest.specs.Steps.{withRange, placeNumber};
 ghost use Rattle.nearest.specs.Nearest.{mostRanges, rangeAt, areRanges, nearestOf, placesWithin};
-ghost use lib.Ieee.{le};
-ghost use Rattle.matrix.specs.Range.{isEmpty, distanceSquared};
+ghost use lib.Ieee.{lt, le};
+ghost use Rattle.matrix.specs.Range.{isEmpty, spanDistanceSquared, distanceSquared};
 use matrix::range::Range3d;
 use matrix::vec::Vec3d;
 use number::limits::RANGE_LENGTH;
+use number::order::upper;
 use number::slots::UNUSED;
 use number::slots::clear;
 
@@ -97,11 +98,27 @@ pub(crate) fn search(ranges: &[f64], count: u32, p: Vec3d) -> u32
     found.place
 }
 
+// The squared distance of a number from a span that is not turned round. It is on one side at most, so that of both differences one is above zero at most.
+fn span_distance_squared(p: f64, min: f64, max: f64) -> f64
+    requires { ⌜ lt max min ≡ false ⌝ }
+    ensures { λ r. ⌜ r ≡ spanDistanceSquared p min max ⌝ }
+{
+    let beside = upper(upper(0.0, min - p), p - max);
+    beside * beside
+}
+
 // Whether a range that is not empty is within a squared distance.
 fn is_within(range: Range3d, p: Vec3d, limit: f64) -> bool
     ensures { λ r. ⌜ r ≡ (not (isEmpty range) && le (distanceSquared range p) limit) ⌝ }
 {
-    !range.is_empty() & (range.distance_squared(p) <= limit)
+    let empty = range.is_empty();
+    if empty {
+        return false;
+    }
+    let distance = span_distance_squared(p.x, range.min.x, range.max.x)
+        + span_distance_squared(p.y, range.min.y, range.max.y)
+        + span_distance_squared(p.z, range.min.z, range.max.z);
+    distance <= limit
 }
 
 // The places of those of so many ranges that are within a squared distance, to the front of the slots; answers how many they are.
