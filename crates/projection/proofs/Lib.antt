@@ -4,3 +4,5 @@ pub mod Recovery
 pub mod Confirmed
 pub mod Worked
 pub mod Records
+pub mod Largest
+pub mod NearZero

@@ -1,6 +1,7 @@
 // What a projection matrix projects: the kind of projection, and the volume of camera space that it keeps.
 ghost use mathlib.Core.Path.{_≡_};
 ghost use Rattle.projection.specs.Projection.{kindNumber, numbers, paramsOf, loaded, perspective, orthographic, projecting, around, perspectiveOf, orthographicOf, close, closeTo, bounded, confirmed, recovered, recoveredFrom};
+ghost use Rattle.matrix.specs.Constants.{positiveZero};
 ghost use Rattle.number.specs.Slice.{stored};
 use matrix::matrix::Mat4d;
 use matrix::vec::Vec4d;
@@ -135,46 +136,53 @@ fn close(given: f64, built: f64) -> bool
     is_finite(given) & is_finite(built) & near
 }
 
-// Whether a volume, seen in perspective, gives a matrix back. Most numbers of what is built are known here, and the compiler leaves out what follows from them.
+// The same where a projection holds 0: no number above 1 is a millionth of its own size, so that its size is held to the millionth alone.
+fn close_to_zero(given: f64) -> bool
+    ensures { λ r. ⌜ r ≡ close given positiveZero ⌝ }
+{
+    (given <= TOLERANCE) & (-TOLERANCE <= given)
+}
+
+// Whether a volume, seen in perspective, gives a matrix back. What is 0 in what is built is known here.
 fn gives_perspective(volume: ProjectionParams, matrix: Mat4d) -> bool
     ensures { λ r. ⌜ r ≡ closeTo matrix (perspective volume) ⌝ }
 {
     let built = volume.perspective();
     close(matrix.r0.x, built.r0.x)
-        & close(matrix.r0.y, built.r0.y)
-        & close(matrix.r0.z, built.r0.z)
-        & close(matrix.r0.w, built.r0.w)
-        & close(matrix.r1.x, built.r1.x)
+        & close_to_zero(matrix.r0.y)
+        & close_to_zero(matrix.r0.z)
+        & close_to_zero(matrix.r0.w)
+        & close_to_zero(matrix.r1.x)
         & close(matrix.r1.y, built.r1.y)
-        & close(matrix.r1.z, built.r1.z)
-        & close(matrix.r1.w, built.r1.w)
+        & close_to_zero(matrix.r1.z)
+        & close_to_zero(matrix.r1.w)
         & close(matrix.r2.x, built.r2.x)
         & close(matrix.r2.y, built.r2.y)
         & close(matrix.r2.z, built.r2.z)
         & close(matrix.r2.w, built.r2.w)
-        & close(matrix.r3.x, built.r3.x)
-        & close(matrix.r3.y, built.r3.y)
+        & close_to_zero(matrix.r3.x)
+        & close_to_zero(matrix.r3.y)
         & close(matrix.r3.z, built.r3.z)
-        & close(matrix.r3.w, built.r3.w)
+        & close_to_zero(matrix.r3.w)
 }
 
-// Whether a volume, seen along parallels, gives a matrix back. Most numbers of what is built are known here, and the compiler leaves out what follows from them.
+// Whether a volume, seen along parallels, gives a matrix back. What is 0 in what is built is known here.
 fn gives_orthographic(volume: ProjectionParams, matrix: Mat4d) -> bool
     ensures { λ r. ⌜ r ≡ closeTo matrix (orthographic volume) ⌝ }
 {
     let built = volume.orthographic();
     close(matrix.r0.x, built.r0.x)
-        & close(matrix.r0.y, built.r0.y)
-        & close(matrix.r0.z, built.r0.z)
-        & close(matrix.r0.w, built.r0.w)
-        & close(matrix.r1.x, built.r1.x)
+        & close_to_zero(matrix.r0.y)
+        & close_to_zero(matrix.r0.z)
+        & close_to_zero(matrix.r0.w)
+        & close_to_zero(matrix.r1.x)
         & close(matrix.r1.y, built.r1.y)
-        & close(matrix.r1.z, built.r1.z)
-        & close(matrix.r1.w, built.r1.w)
-        & close(matrix.r2.x, built.r2.x)
-        & close(matrix.r2.y, built.r2.y)
+        & close_to_zero(matrix.r1.z)
+        & close_to_zero(matrix.r1.w)
+        & close_to_zero(matrix.r2.x)
+        & close_to_zero(matrix.r2.y)
         & close(matrix.r2.z, built.r2.z)
-        & close(matrix.r2.w, built.r2.w)
+        & close_to_zero(matrix.r2.w)
         & close(matrix.r3.x, built.r3.x)
         & close(matrix.r3.y, built.r3.y)
         & close(matrix.r3.z, built.r3.z)

@@ -1,5 +1,4 @@
--- `projection::close` meets its contract: by what it calls, and since the largest of three numbers is the same in every order, so that the code may begin
--- with 1, where one comparison finds the larger, and the definition may end with it, as the Rust does. Assumes nothing.
+-- `projection::close` meets its contract: by what it calls, and since the largest of three numbers is the same in every order. Assumes nothing.
 use mathlib.Core.Path.{_≡_, refl, ap, _∙_}
 use mathlib.Core.Bool.{Bool, true, false, cond, _&&_}
 use borrow.Author.Needs.{needs}
@@ -13,37 +12,11 @@ use Rattle.number.proofs.Extremes.{upper-positive}
 use Rattle.number.proofs.Magnitude.{abs-fits}
 use Rattle.matrix.specs.Constants.{one}
 use Rattle.matrix.proofs.Literals.{one-bits}
+use Rattle.projection.proofs.Largest.{largest}
 use Rattle.projection.proofs.Literals.{tolerance-bits}
 use Rattle.projection.specs.Projection.{close}
 use Rattle.projection.proofs.projection.close.Statement.{statement}
 use Rattle.projection.proofs.projection.close.Tie as tie
-
--- the larger of 1 and a size is a number above zero, so one comparison finds what is larger than it
-above : (g : Float) → (isNan (upperOf one (absOf g)) ≡ false) × (negative (upperOf one (absOf g)) ≡ false)
-unfolding absOf isNan lt round
-above nan = (refl, refl)
-above (inf s) = (refl, refl)
-above (fin s m e) = go (lt one (fin false m e))
-  where
-    go : (b : Bool) → (isNan (cond b (fin false m e) one) ≡ false) × (negative (cond b (fin false m e) one) ≡ false)
-    go true = (refl, refl)
-    go false = (refl, refl)
-
-one-is : (isNan one ≡ false) × (negative one ≡ false)
-unfolding isNan round
-one-is = (refl, refl)
-
--- the largest of 1 and two sizes, 1 first or last
-one-last : (x y : Float) → Value x → Value y → maxOf (maxOf one x) y ≡ maxOf (maxOf x y) one
-one-last x y v w =
-    let u : Value one = round-fits binary64 false 1 1 in
-    max-order-free .associative one x y u v w ∙ max-order-free .commutative one (maxOf x y) u (max-value x y v w)
-
-largest : (g b m n : Float) → Value g → Value b → m ≡ upperOf one (absOf g) → n ≡ upperOf m (absOf b) → n ≡ maxOf (maxOf (absOf g) (absOf b)) one
-largest g b m n v w p q =
-    q ∙ ap (λ (z : Float). upperOf z (absOf b)) p ∙ upper-positive (upperOf one (absOf g)) (absOf b) (above g .0) (above g .1)
-    ∙ ap (λ (z : Float). maxOf z (absOf b)) (upper-positive one (absOf g) (one-is .0) (one-is .1))
-    ∙ one-last (absOf g) (absOf b) (abs-fits g v) (abs-fits b w)
 
 done : (g b x m y n d : Float) (s t : Bool) → Value g → Value b → x ≡ absOf g → m ≡ upperOf (ofBits binary64 0x3ff0_0000_0000_0000) x → y ≡ absOf b → n ≡ upperOf m y
     → d ≡ absOf (g ⊖ b) → s ≡ finite g → t ≡ finite b → (s && t && le d (ofBits binary64 0x3eb0_c6f7_a0b5_ed8d ⊗ n)) ≡ close g b

@@ -1,9 +1,10 @@
--- `projection::gives_perspective` meets its contract: number by number by that of `close`. Assumes nothing.
+-- `projection::gives_perspective` meets its contract: number by number by those of `close` and `close_to_zero`. Assumes nothing.
 use mathlib.Core.Path.{_≡_, ap, _∙_}
 use mathlib.Core.Bool.{Bool, _&&_}
 use Rattle.number.specs.Every.{everyBelow}
 use Rattle.matrix.specs.declared.matrix.Mat4d.{Mat4d}
 use Rattle.projection.specs.Projection.{closeTo}
+use Rattle.projection.proofs.Confirmed.{placed}
 use Rattle.projection.proofs.projection.gives_perspective.Statement.{statement}
 use Rattle.projection.proofs.projection.gives_perspective.Tie as tie
 
@@ -29,7 +30,8 @@ returns c =
     let c1 = c2 .before in
     let c0 = c1 .before in
     let built = c0 .before in
-    of-built (built .before .args .matrix) (built .perspective .result) _ _ (built .perspective .ensures) (λ t. c0 .close .ensures t && c1 .close2 .ensures t && c2 .close3 .ensures t && c3 .close4 .ensures t && c4 .close5 .ensures t && c5 .close6 .ensures t && c6 .close7 .ensures t && c7 .close8 .ensures t && c8 .close9 .ensures t && c9 .close10 .ensures t && c10 .close11 .ensures t && c11 .close12 .ensures t && c12 .close13 .ensures t && c13 .close14 .ensures t && c14 .close15 .ensures t && c .close16 .ensures t)
+    of-built (built .before .args .matrix) (built .perspective .result) _ _ (built .perspective .ensures)
+    (λ t. c0 .close .ensures t && placed _ _ _ _ (c0 .before .perspective .ensures) (λ (q : Mat4d). q .r0 .y) (c1 .close-to-zero .ensures) t && placed _ _ _ _ (c0 .before .perspective .ensures) (λ (q : Mat4d). q .r0 .z) (c2 .close-to-zero2 .ensures) t && placed _ _ _ _ (c0 .before .perspective .ensures) (λ (q : Mat4d). q .r0 .w) (c3 .close-to-zero3 .ensures) t && placed _ _ _ _ (c0 .before .perspective .ensures) (λ (q : Mat4d). q .r1 .x) (c4 .close-to-zero4 .ensures) t && c5 .close2 .ensures t && placed _ _ _ _ (c0 .before .perspective .ensures) (λ (q : Mat4d). q .r1 .z) (c6 .close-to-zero5 .ensures) t && placed _ _ _ _ (c0 .before .perspective .ensures) (λ (q : Mat4d). q .r1 .w) (c7 .close-to-zero6 .ensures) t && c8 .close3 .ensures t && c9 .close4 .ensures t && c10 .close5 .ensures t && c11 .close6 .ensures t && placed _ _ _ _ (c0 .before .perspective .ensures) (λ (q : Mat4d). q .r3 .x) (c12 .close-to-zero7 .ensures) t && placed _ _ _ _ (c0 .before .perspective .ensures) (λ (q : Mat4d). q .r3 .y) (c13 .close-to-zero8 .ensures) t && c14 .close7 .ensures t && placed _ _ _ _ (c0 .before .perspective .ensures) (λ (q : Mat4d). q .r3 .w) (c .close-to-zero9 .ensures) t)
 
 pub gives-perspective-spec : {M : Type 1} → statement M
 gives-perspective-spec =
