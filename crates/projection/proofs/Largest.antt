@@ -12,7 +12,7 @@ use Rattle.number.proofs.Magnitude.{abs-fits}
 use Rattle.matrix.specs.Constants.{one}
 
 -- the larger of 1 and a size is a number above zero, so one comparison finds what is larger than it
-above : (g : Float) → (isNan (upperOf one (absOf g)) ≡ false) × (negative (upperOf one (absOf g)) ≡ false)
+pub above : (g : Float) → (isNan (upperOf one (absOf g)) ≡ false) × (negative (upperOf one (absOf g)) ≡ false)
 unfolding absOf isNan lt round
 above nan = (refl, refl)
 above (inf s) = (refl, refl)
@@ -22,7 +22,7 @@ above (fin s m e) = go (lt one (fin false m e))
     go true = (refl, refl)
     go false = (refl, refl)
 
-one-is : (isNan one ≡ false) × (negative one ≡ false)
+pub one-is : (isNan one ≡ false) × (negative one ≡ false)
 unfolding isNan round
 one-is = (refl, refl)
 

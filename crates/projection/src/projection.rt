@@ -7,7 +7,6 @@ use matrix::matrix::Mat4d;
 use matrix::vec::Vec4d;
 use number::limits::MATRIX_LENGTH;
 use number::order::abs;
-use number::order::is_finite;
 use number::order::upper;
 use number::slice;
 use number::slice::at;
@@ -127,13 +126,14 @@ fn orthographic_of(m: Mat4d) -> ProjectionParams
     )
 }
 
-// Whether a number of a matrix is the one that a projection holds there.
+// Whether a number of a matrix is the one that a projection holds there. Each size is the larger of a number and its opposite, since `abs` has a test for a NaN, and
+// the larger of the sizes is finite just where both numbers are, or the difference is a NaN.
 fn close(given: f64, built: f64) -> bool
     ensures { λ r. ⌜ r ≡ close given built ⌝ }
 {
-    let size = upper(upper(1.0, abs(given)), abs(built));
-    let near = abs(given - built) <= TOLERANCE * size;
-    is_finite(given) & is_finite(built) & near
+    let size = upper(upper(upper(upper(1.0, given), -given), built), -built);
+    let off = given - built;
+    (size != 1.0 / 0.0) & (upper(off, -off) <= TOLERANCE * size)
 }
 
 // The same where a projection holds 0: no number above 1 is a millionth of its own size, so that its size is held to the millionth alone.
@@ -297,12 +297,15 @@ impl ProjectionParams {
     fn bounded(self) -> bool
         ensures { λ r. ⌜ r ≡ bounded self ⌝ }
     {
-        is_finite(self.left)
-            & is_finite(self.right)
-            & is_finite(self.bottom)
-            & is_finite(self.top)
-            & is_finite(self.near)
-            & is_finite(self.far)
+        let all = [
+            self.left,
+            self.right,
+            self.bottom,
+            self.top,
+            self.near,
+            self.far,
+        ];
+        slice::all_finite(&all)
     }
 
     // The volume that a matrix projects.
