@@ -9,7 +9,6 @@ pub mod JoinedBits
 pub mod Places
 pub mod EitherOrder
 pub mod Zeros
-pub mod Nonzero
 pub mod NearZeros
 pub mod Pack
 pub mod Rounding
@@ -36,10 +35,8 @@ pub mod Ways
 pub mod Comparisons
 pub mod SidesOfZero
 pub mod RuleOfSigns
-pub mod NoOverflow
 pub mod RoundedOrder
 pub mod Monotone
 pub mod RootBracket
 pub mod SumFromZero
 pub mod RoundingError
-pub mod Commutative

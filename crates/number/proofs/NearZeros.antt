@@ -8,10 +8,9 @@ use lib.Dec.{T, eqb, eqb→eq}
 use lib.Ieee.{Float, nan, inf, fin, Format, up, down}
 use lib.Ieee.{lt, eq, add, isNan}
 use lib.Ieee.Fits.{up-pos, down-pos, and-l, and-r}
-use Rattle.number.specs.Arithmetic.{negative, nonzero, lowerOf, upperOf, minOf, maxOf}
+use Rattle.number.specs.Arithmetic.{negative, lowerOf, upperOf, minOf, maxOf}
 use Rattle.number.proofs.Extremes.{no-digits}
 use Rattle.number.proofs.Nan.{nan-is}
-use Rattle.number.proofs.Nonzero.{no-zero, no-nan}
 use Rattle.number.proofs.Zeros.{number-after, number-before, both-zeros}
 
 -- ---- the same but for the sign of a zero, unless the first is a NaN
@@ -20,11 +19,6 @@ pub data Near : Float → Float → Type 0 where
   equal : {x y : Float} → x ≡ y → Near x y
   zeros : {x y : Float} (s t : Bool) (e d : ℤ) → x ≡ fin s zero e → y ≡ fin t zero d → Near x y
   nothing : {x y : Float} → x ≡ nan → Near x y
-
-pub near-nonzero : {x y : Float} → Near x y → T (nonzero x) → x ≡ y
-near-nonzero (equal p) t = p
-near-nonzero (zeros s r e d p q) t = absurd (no-zero s 0 e refl (subst (λ (z : Float). T (nonzero z)) p t))
-near-nonzero (nothing p) t = absurd (no-nan (subst (λ (z : Float). T (nonzero z)) p t))
 
 -- a choice by one comparison
 

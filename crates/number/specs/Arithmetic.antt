@@ -36,10 +36,6 @@ negative (fin s m e) = s
 abbrev pub zeroOf : Bool → Float
 zeroOf s = fin s 0 (pos 0)
 
--- below zero or above it: neither a zero nor a NaN
-abbrev pub nonzero : Float → Bool
-nonzero x = lt x (zeroOf false) || lt (zeroOf false) x
-
 -- the smaller and the larger by one comparison, which tells neither two zeros apart nor a NaN
 abbrev pub lowerOf : Float → Float → Float
 lowerOf x y = cond (lt y x) y x

@@ -36,7 +36,7 @@ pub enum Verdict {
     Refused(Refusal),
 }
 
-// How many there are.
+// How many there are, or a bit for each.
 pub enum Counted {
     Count(u32),
     Refused(Refusal),

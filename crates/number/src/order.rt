@@ -3,7 +3,7 @@ ghost use mathlib.Core.Path.{_≡_};
 ghost use mathlib.Core.Bool.{cond};
 ghost use lib.Ieee.{isNan, lt};
 ghost use lib.Ieee.Scale.{finite};
-ghost use Rattle.number.specs.Arithmetic.{absOf, nonzero, lowerOf, upperOf, minOf, maxOf};
+ghost use Rattle.number.specs.Arithmetic.{absOf, lowerOf, upperOf, minOf, maxOf};
 
 // |x|, by its bits.
 pub fn abs(x: f64) -> f64
@@ -27,13 +27,6 @@ pub fn is_finite(x: f64) -> bool
     ensures { λ r. ⌜ r ≡ finite x ⌝ }
 {
     abs(x) < 1.0 / 0.0
-}
-
-// Below zero or above it: neither a zero nor a NaN.
-pub fn is_nonzero(x: f64) -> bool
-    ensures { λ r. ⌜ r ≡ nonzero x ⌝ }
-{
-    (x < 0.0) | (0.0 < x)
 }
 
 // The smaller and the larger by one comparison: right but for two zeros, and where the first is a NaN.
