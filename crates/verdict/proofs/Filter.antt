@@ -21,7 +21,7 @@ use Rattle.matrix.specs.Range.{isEmpty}
 use Rattle.matrix.specs.declared.vec.Vec4d.{Vec4d}
 use Rattle.matrix.specs.declared.range.Range3d.{Range3d}
 use Rattle.verdict.specs.Plane.{fromEquation, endToward, reachesPositiveSide}
-use Rattle.verdict.specs.Steps.Filter.{short, long, least, most, part, extentOf, sizeOf, errorOf, trusted, Held, HeldRange, FilterSettles}
+use Rattle.verdict.specs.Steps.Filter.{short, long, least, most, part, extentOf, sizeOf, errorOf, trusted, Fits, RangeFits, FilterSettles}
 use Rattle.verdict.proofs.ReachSum.{reach-by-dot}
 use Rattle.verdict.proofs.LengthBracket.{larger-is, offset-is}
 use Rattle.verdict.proofs.FilterBounds.{bound, bound-positive, bound-room, bound-unit, abs-held, neg-held, one-held, three-held, part-held, Bounded, length-held, least-held, rest-held}
@@ -34,7 +34,7 @@ use Rattle.verdict.proofs.FilterBudget.{exact-size, three-numbers, prod
 
 -- ---- the numbers of the test
 
-module _ (x y z w : Float) (r : Range3d) (he : Held (record { x = x; y = y; z = z; w = w })) (hr : HeldRange r) (H : T (trusted (record { x = x; y = y; z = z; w = w }) r)) where
+module _ (x y z w : Float) (r : Range3d) (he : Fits (record { x = x; y = y; z = z; w = w })) (hr : RangeFits r) (H : T (trusted (record { x = x; y = y; z = z; w = w }) r)) where
   abbrev e : Vec4d
   e = record { x = x; y = y; z = z; w = w }
 

@@ -2,13 +2,13 @@
 -- The equation n, w is that of a plane carried into a box's space and c the corner of the box's range that is furthest along n: the range reaches the plane's positive side where n · c + w is at least 0,
 -- which needs no length of n. Both are floats of any kind; `trusted` refuses those for which the bound would not hold. Definitions and a statement only.
 use mathlib.Core.Path.{_≡_}
-use mathlib.Core.Bool.{Bool, true, false, not, _&&_}
+use mathlib.Core.Bool.{Bool, false, not, _&&_}
 use Prim.Native.Nat.{_^_}
 use lib.Dec.{T}
 use lib.Ieee.{Float, binary64, fits, lt, le, neg}
 use Rattle.number.specs.Arithmetic.{_⊕_, _⊗_, absOf}
 use Rattle.matrix.specs.Constants.{rounded}
-use Rattle.matrix.specs.Vec.{axis, axis4, vec3, dot}
+use Rattle.matrix.specs.Vec.{axis4, vec3, dot}
 use Rattle.matrix.specs.Range.{isEmpty}
 use Rattle.matrix.specs.declared.vec.Vec3d.{Vec3d}
 use Rattle.matrix.specs.declared.vec.Vec4d.{Vec4d}
@@ -32,7 +32,7 @@ least = rounded 1 (10 ^ 90)
 abbrev pub most : Float
 most = rounded (10 ^ 90) 1
 
--- the part of that size that is taken for the error, some thousand times what the roundings can make of it
+-- the part of that size that is taken for the error, some thousands of times what the roundings can make of it
 abbrev pub part : Float
 part = rounded 1 (10 ^ 11)
 
@@ -67,17 +67,18 @@ trusted e r = lt (extentOf r) long && lt (short ⊗ short) (squareOf e) && lt (s
 unfoldable pub filteredOf : Vec4d → Range3d → Filtered
 filteredOf e r = record { estimate = estimateOf e r; error = errorOf (sizeOf e r); trusted = trusted e r }
 
--- Where the filter is trusted it settles the test as the plane does, whose normal is made unit length: a range that is not empty reaches the positive side if the estimate is at least the error, and none does
--- if it is below the error's opposite. The numbers are values of the format, as every number of the code is.
-abbrev pub Held : Vec4d → Type 0
-Held e = T (fits binary64 (e .x)) × T (fits binary64 (e .y)) × T (fits binary64 (e .z)) × T (fits binary64 (e .w))
+-- the numbers are values of the format, as every number of the code is
+abbrev pub Fits : Vec4d → Type 0
+Fits e = T (fits binary64 (e .x)) × T (fits binary64 (e .y)) × T (fits binary64 (e .z)) × T (fits binary64 (e .w))
 
-abbrev pub HeldRange : Range3d → Type 0
-HeldRange r =
+abbrev pub RangeFits : Range3d → Type 0
+RangeFits r =
     T (fits binary64 (r .min .x)) × T (fits binary64 (r .min .y)) × T (fits binary64 (r .min .z)) × T (fits binary64 (r .max .x)) × T (fits binary64 (r .max .y)) × T (fits binary64 (r .max .z))
 
+-- Where the filter is trusted it settles the test as the plane does, whose normal is made unit length: a range that is not empty reaches the positive side if the estimate is at least the error, and none does
+-- if it is below the error's opposite.
 abbrev pub FilterSettles : Type 0
 FilterSettles =
-    (e : Vec4d) (r : Range3d) → Held e → HeldRange r → T (trusted e r)
+    (e : Vec4d) (r : Range3d) → Fits e → RangeFits r → T (trusted e r)
     → (T (le (errorOf (sizeOf e r)) (estimateOf e r)) → reachesPositiveSide (fromEquation e) r ≡ not (isEmpty r))
     × (T (lt (estimateOf e r) (neg (errorOf (sizeOf e r)))) → reachesPositiveSide (fromEquation e) r ≡ false)

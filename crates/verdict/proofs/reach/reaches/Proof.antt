@@ -11,12 +11,12 @@ use Rattle.matrix.specs.declared.range.Range3d.{Range3d}
 use Rattle.verdict.specs.declared.plane.Plane.{Plane}
 use Rattle.verdict.specs.declared.reach.Filtered.{Filtered}
 use Rattle.verdict.specs.Plane.{fromEquation, reachesPositiveSide}
-use Rattle.verdict.specs.Steps.Filter.{filteredOf, Held, HeldRange}
+use Rattle.verdict.specs.Steps.Filter.{filteredOf, Fits, RangeFits}
 use Rattle.verdict.proofs.Filter.{filter-settles}
 use Rattle.verdict.proofs.reach.reaches.Statement.{statement}
 use Rattle.verdict.proofs.reach.reaches.Tie as tie
 
-module _ (e : Vec4d) (r : Range3d) (f : Filtered) (E : Held e) (R : HeldRange r) (h : f ≡ filteredOf e r) where
+module _ (e : Vec4d) (r : Range3d) (f : Filtered) (E : Fits e) (R : RangeFits r) (h : f ≡ filteredOf e r) where
   -- what the two tests of a filter tell
   abbrev Settles : Filtered → Type 0
   Settles g =
