@@ -330,7 +330,7 @@ uint32_t gf_bbox_centroid(const double *b, size_t b_len, double *out, size_t out
  * In: volume, p 3. Out: yes or no. Refuses: 1, 12, 1, 13. */
 uint32_t gf_intersects_point(const double *volume, size_t volume_len, const double *p, size_t p_len, uint32_t *out);
 
-/* Whether any of the segment from p0 to p1, its ends included, is on the positive side of every plane. The rays have no part in it
+/* Whether the segment p0 to p1, its ends included, has a point on the positive side of every plane. The rays have no part in it
  * but for 13.
  * In: volume, p0 3, p1 3. Out: yes or no. Refuses: 1, 12, 1, 13. */
 uint32_t gf_intersects_segment(const double *volume, size_t volume_len, const double *p0, size_t p0_len, const double *p1, size_t p1_len, uint32_t *out);
@@ -386,7 +386,7 @@ uint32_t gf_blocking_planes(const double *volume, size_t volume_len, const doubl
 /* ---- verdicts in whole numbers: no float is read, made or written. Coordinates are at most 65536 in size, the entries
  * of a normal at most 128, a distance at most 16777216: the numbers of the farm grid */
 
-/* Whether any of the segment from p0 to p1, its ends included, is on the positive side of every plane, exactly. At each plane an
+/* Whether the segment p0 to p1, its ends included, has a point on the positive side of every plane, exactly. At each plane an
  * end's distance is the whole number end times normal, less the plane's distance. Both ends below 0 at one plane: no. Where one
  * of the two, d0 of p0 and d1 of p1, is below 0, the segment comes in (d0 is) or goes out (d1 is) at the fraction |d0| / |d1 - d0|
  * of its way. No, if the greatest fraction at which it comes in is above the least at which it goes out, compared by products of

@@ -1,5 +1,5 @@
--- Cameras, as Gf's documentation has them: where one stands, and what its lens sees. Definitions only.
--- Apertures, their offsets and the focal length are in tenths of a world unit.
+-- Cameras, as Gf's documentation has them: a placement in the world, a kind of projection and a lens. Definitions only.
+-- Lengths in the camera, which are the focal length, the apertures and the offsets, count tenths of the world's unit; near and far count that unit itself.
 use mathlib.Core.Bool.{_&&_}
 use mathlib.Core.List.{List, [], _∷_, _++_}
 use lib.Ieee.{Float}
@@ -41,17 +41,17 @@ numbers c = entries (c .transform) ++ kindNumber (c .projection) ∷ lens c
 
 -- ---- the lens of a volume
 
--- a tenth of a world unit
+-- the unit of lengths in the camera, in the world's
 abbrev pub unit : Float
 unit = rounded 1 10
 
--- What brings a length of the window to the film back. A perspective window stands at a distance of one, and the film back at the focal length,
--- which is given in its unit and wanted in that of the aperture; an orthographic window is the film back.
+-- The factor from a length of the window to one of the aperture. In perspective both lie between the same lines of sight, the window 1 away from the eye and
+-- the aperture a focal length away, whose own unit is changed for the aperture's. Along parallels only the unit changes.
 abbrev pub toAperture : Projection → Float → Float
 toAperture Perspective focal = widenOf focal ⊗ unit ⊘ unit
 toAperture Orthographic focal = one ⊘ unit
 
--- The film back is the window, and its offset the window's center, each narrowed once.
+-- By that factor: the apertures are the window's width and height, and the offsets say where its middle is. Each number is narrowed once.
 abbrev pub filmed : Mat4d → ProjectionParams → Float → Float → Camera
 filmed transform p focal scale = record {
   transform = transform;

@@ -1,4 +1,4 @@
-// A camera as a plain value: where it stands and what it sees.
+// Cameras, and how one follows from the matrices of a view and of a projection.
 ghost use mathlib.Core.Path.{_≡_};
 ghost use Rattle.number.specs.Slice.{allFinite, stored};
 ghost use Rattle.camera.specs.Camera.{numbers, toAperture, cameraOf, opened, cameraFrom};
@@ -13,8 +13,8 @@ use projection::projection::ProjectionParams;
 use projection::projection::Recovered;
 use projection::projection::kind_number;
 
-// The transform carries camera space into the world. The apertures, their offsets and the focal length are in tenths of a world
-// unit, near and far in world units.
+// The transform is the inverse of the view, and so places the camera. Near and far count the world's unit. The other five numbers are
+// lengths in the camera and count tenths of that unit.
 pub struct Camera {
     pub transform: Mat4d,
     pub projection: Projection,
@@ -33,8 +33,8 @@ pub enum Set {
     Refused(Refusal),
 }
 
-// What brings a length of the window to the film back: a perspective window stands at a distance of one, and the film back at the
-// focal length; an orthographic window is the film back.
+// The factor from a length of the window to one of the aperture: the focal length in perspective, since the window is 1 away from the
+// eye, and along parallels the change of the unit alone.
 fn to_aperture(projection: Projection, focal_length: f32) -> f64
     ensures { λ r. ⌜ r ≡ toAperture projection «focal_length» ⌝ }
 {
@@ -46,10 +46,10 @@ fn to_aperture(projection: Projection, focal_length: f32) -> f64
 }
 
 impl Camera {
-    // World units in one unit of aperture.
+    // How long an aperture of 1 is in the world.
     pub const APERTURE_UNIT: f64 = 0.1;
 
-    // World units in one unit of focal length.
+    // How long a focal length of 1 is there.
     pub const FOCAL_LENGTH_UNIT: f64 = 0.1;
 
     // The camera that stands by a transform and sees a volume.
@@ -130,8 +130,8 @@ impl Camera {
         Set::To(camera)
     }
 
-    // The camera of a view, which carries the world into camera space, and a projection. The focal length is given, since the matrices
-    // fix its ratio to the apertures alone.
+    // The camera of a view and a projection. A lens of twice the focal length with apertures twice as large has the same projection, so
+    // that the focal length has to be told besides.
     pub fn set_from_view_and_projection(view: Mat4d, projection: Mat4d, focal_length: f32) -> Set
         ensures { λ r. ⌜ r ≡ cameraFrom view projection «focal_length» ⌝ }
     {

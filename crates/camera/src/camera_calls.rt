@@ -30,7 +30,7 @@ fn inverse(view: &[f64]) -> Inverted
     adjugate.over(det, SINGULAR_DETERMINANT)
 }
 
-// The camera of a view and a projection. A refused one leaves the record as it was.
+// The camera of a view and a projection. A refused one leaves the previous record.
 pub fn set_from_view_and_projection(
     view: &[f64],
     projection: &[f64],

@@ -1,3 +1,3 @@
-// Cameras: where one stands, and what its lens sees.
+// Cameras from the matrices of a view and of a projection.
 pub mod camera;
 pub mod camera_calls;

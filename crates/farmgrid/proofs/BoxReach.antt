@@ -33,7 +33,7 @@ pub record Reaches (B : WholeBox) (P : WholePlane) : Type 0 where
 abbrev pub inSpace : (ℕ → ℕ → ℤ) → (ℕ → ℤ) → ℕ → ℤ
 inSpace f n i = dotℤ n (f i)
 
--- the corner furthest along the normal u
+-- the corner with the greatest dot product with the normal u
 abbrev pub ahead : (ℕ → ℤ) → (ℕ → ℤ) → (ℕ → ℤ) → ℕ → ℤ
 ahead u low high i = cond (nonNeg (u i)) (high i) (low i)
 

@@ -31,7 +31,7 @@ matrixOf s = matrix (λ i j. at s (i * 4 + j))
 abbrev pub identity : Mat4d
 identity = matrix (λ i j. cond (eqb i j) one positiveZero)
 
--- the last row: "The translation of the transform"
+-- what is added to a moved point: the last row
 abbrev pub translation : Mat4d → Vec3d
 translation m = vec3 (entry m 3)
 
@@ -61,6 +61,6 @@ downLeft m j = entry m 0 j ⊗ entry m 1 ((j + 2) % 3) ⊗ entry m 2 ((j + 1) % 
 abbrev pub determinant3 : Mat4d → Float
 determinant3 m = downRight m 0 ⊕ downRight m 1 ⊕ downRight m 2 ⊖ downLeft m 0 ⊖ downLeft m 1 ⊖ downLeft m 2
 
--- it keeps the handedness of the axes
+-- it is above 0: nothing is mirrored
 abbrev pub rightHanded : Mat4d → Bool
 rightHanded m = lt positiveZero (determinant3 m)

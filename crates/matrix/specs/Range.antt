@@ -25,7 +25,7 @@ range min max = record { min = min; max = max }
 abbrev pub rangeOf : List Float → Range3d
 rangeOf s = range (vec3 (at s)) (vec3 (λ i. at s (3 + i)))
 
--- the default range: from the largest number of binary32 to its negation
+-- the default range: along each axis from the largest number of binary32 down to its opposite
 abbrev pub empty : Range3d
 empty = range (vec3 (λ i. largest32)) (vec3 (λ i. neg largest32))
 
@@ -70,7 +70,7 @@ unfolding spanDistanceSquared
 distanceSquared r p =
     spanDistanceSquared (p .x) (r .min .x) (r .max .x) ⊕ spanDistanceSquared (p .y) (r .min .y) (r .max .y) ⊕ spanDistanceSquared (p .z) (r .min .z) (r .max .z)
 
--- ---- a range through a matrix, which is taken to be affine
+-- ---- a range through a matrix, whose last column has no part in it
 
 -- s + f 0 + f 1 + .. of n terms, from left to right
 unfoldable pub sumFrom : Float → ℕ → (ℕ → Float) → Float
@@ -93,7 +93,7 @@ transformed r m = cond (isEmpty r) r (range (reached minOf r m) (reached maxOf r
 
 -- ---- corners
 
--- corner i of eight takes the maximum along x where bit 0 of i is set, along y by bit 1, and along z by bit 2
+-- Of eight corners, counted from 0 in binary with a digit for each axis, that of x the last: 0 stands for the least along the axis, and 1 for the greatest.
 abbrev pub corner : Range3d → ℕ → Vec3d
 corner r i = vec3 (λ a. cond (eqb (i / 2 ^ a % 2) 1) (axis (r .max) a) (axis (r .min) a))
 

@@ -117,7 +117,7 @@ impl Mat4d {
         }
     }
 
-    // The determinant of the upper left three by three.
+    // The determinant of the first three rows and columns.
     pub fn determinant3(self) -> f64
         ensures { λ r. ⌜ r ≡ determinant3 self ⌝ }
     {

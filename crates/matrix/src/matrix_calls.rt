@@ -149,7 +149,7 @@ pub fn transform_dir(m: &[f64], v: &[f64], out: &mut [f64]) -> Written
     Written::Done
 }
 
-// The determinant of the upper left three by three.
+// The determinant of the first three rows and columns.
 pub fn determinant3(m: &[f64]) -> Scalar
     ensures { λ r. ⌜ scalarOf r ≡ determinantCall (now (m .entry)) ⌝ }
 {
@@ -159,7 +159,7 @@ pub fn determinant3(m: &[f64]) -> Scalar
     Scalar::Value(Mat4d::load(m).determinant3())
 }
 
-// Whether a matrix keeps the handedness of the axes.
+// Whether that determinant is above 0, so that nothing is mirrored.
 pub fn is_right_handed(m: &[f64]) -> Verdict
     ensures { λ r. ⌜ verdictOf r ≡ rightHandedCall (now (m .entry)) ⌝ }
 {

@@ -51,7 +51,7 @@ fn are_numbers(x: f64, y: f64) -> bool
 }
 
 impl Range3d {
-    // The largest number of binary32 as the least corner, and its negation as the greatest.
+    // Along each axis from the largest number of binary32 down to its opposite.
     pub const EMPTY: Range3d = Range3d {
         min: Vec3d {
             x: 3.4028234663852886e38,
@@ -246,7 +246,7 @@ impl Range3d {
             + order::upper(self.min.z * column.z, self.max.z * column.z)
     }
 
-    // The corners of the range that holds this one once the matrix is applied to it, by one comparison for each choice.
+    // The corners of this range moved by the matrix, by one comparison for each choice.
     pub(crate) fn transformed_min(self, matrix: Mat4d) -> Vec3d
         ensures { λ r. ⌜ r ≡ reached lowerOf self matrix ⌝ }
     {
@@ -301,7 +301,7 @@ impl Range3d {
         }
     }
 
-    // The range that holds this one once the matrix is applied to it.
+    // Moved by the matrix: its least and greatest along each axis.
     pub fn transformed(self, matrix: Mat4d) -> Range3d
         ensures { λ r. ⌜ r ≡ transformed self matrix ⌝ }
     {
@@ -362,7 +362,7 @@ impl Range3d {
         self.union(moved)
     }
 
-    // The corner i, of eight: the maximum along each axis whose bit is set in i.
+    // Corner i of eight: of the lowest three bits of i each chooses between least and greatest along an axis.
     pub fn corner(self, i: usize) -> Vec3d
         ensures { λ r. ⌜ r ≡ corner self i ⌝ }
     {

@@ -15,7 +15,7 @@ use number::limits::POINT_LENGTH;
 use number::limits::RANGE_LENGTH;
 use number::slice::at;
 
-// Whether a range holds no point.
+// Whether a range is empty.
 pub fn is_empty(range: &[f64]) -> Verdict
     ensures { λ r. ⌜ verdictOf r ≡ isEmptyCall (now (range .entry)) ⌝ }
 {
@@ -35,7 +35,7 @@ pub fn is_empty(range: &[f64]) -> Verdict
     Verdict::No
 }
 
-// The smallest range that holds both.
+// Two ranges united.
 pub fn union(a: &[f64], b: &[f64], out: &mut [f64]) -> Written
     ensures { λ r. ⌜ reply r (now (out .exit)) ≡ unionCall (now (a .entry)) (now (b .entry)) (now (out .entry)) ⌝ }
 {
@@ -58,7 +58,7 @@ pub fn union(a: &[f64], b: &[f64], out: &mut [f64]) -> Written
     Written::Done
 }
 
-// The range that both hold.
+// What two ranges have in common.
 pub fn intersection(a: &[f64], b: &[f64], out: &mut [f64]) -> Written
     ensures { λ r. ⌜ reply r (now (out .exit)) ≡ intersectionCall (now (a .entry)) (now (b .entry)) (now (out .entry)) ⌝ }
 {
@@ -75,7 +75,7 @@ pub fn intersection(a: &[f64], b: &[f64], out: &mut [f64]) -> Written
     Written::Done
 }
 
-// The point halfway between the corners.
+// Half the least corner plus half the greatest.
 pub fn midpoint(range: &[f64], out: &mut [f64]) -> Written
     ensures { λ r. ⌜ reply r (now (out .exit)) ≡ midpointCall (now (range .entry)) (now (out .entry)) ⌝ }
 {
@@ -89,7 +89,7 @@ pub fn midpoint(range: &[f64], out: &mut [f64]) -> Written
     Written::Done
 }
 
-// The squared distance from a point to the nearest point of a range.
+// The square of the distance between a point and a range.
 pub fn distance_squared(range: &[f64], p: &[f64]) -> Scalar
     ensures { λ r. ⌜ scalarOf r ≡ distanceSquaredCall (now (range .entry)) (now (p .entry)) ⌝ }
 {
@@ -102,7 +102,7 @@ pub fn distance_squared(range: &[f64], p: &[f64]) -> Scalar
     Scalar::Value(Range3d::load(range).distance_squared(Vec3d::load(p)))
 }
 
-// The range that holds a range once a matrix is applied to it.
+// A range moved by a matrix: its least and greatest along each axis.
 pub fn transformed(range: &[f64], m: &[f64], out: &mut [f64]) -> Written
     ensures { λ r. ⌜ reply r (now (out .exit)) ≡ transformedCall (now (range .entry)) (now (m .entry)) (now (out .entry)) ⌝ }
 {

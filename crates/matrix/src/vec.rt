@@ -11,7 +11,7 @@ use number::root::sqrt;
 use number::slice;
 use number::slice::at;
 
-// The length below which a vector is scaled as if it had this one.
+// A shorter vector is normalized as if it had this length.
 pub const MIN_VECTOR_LENGTH: f64 = 1e-10;
 
 pub struct Vec3d {
@@ -90,7 +90,7 @@ impl Vec3d {
         }
     }
 
-    // The lesser number along each axis.
+    // The smaller number along each axis.
     pub fn min(self, other: Vec3d) -> Vec3d
         ensures { λ r. ⌜ r ≡ least self other ⌝ }
     {
@@ -101,7 +101,7 @@ impl Vec3d {
         }
     }
 
-    // The greater number along each axis.
+    // The larger number along each axis.
     pub fn max(self, other: Vec3d) -> Vec3d
         ensures { λ r. ⌜ r ≡ greatest self other ⌝ }
     {

@@ -1,7 +1,8 @@
--- What a projection matrix projects: the kind of projection, and the volume of camera space that it keeps, as Gf's documentation has them, in the operation
--- order of projection.rs. Definitions only.
+-- Projections, as Gf's documentation has them: a kind and the six numbers of a volume, the matrix that is built from these, and these recovered from a matrix.
+-- The order of operations is that of projection.rs. Definitions only.
 -- A number is a value of binary64, NaN and infinities among them, and each operation on them rounds; nothing is assumed of a matrix or of a volume.
--- The camera looks along −Z from the origin. The window of a perspective projection stands at a distance of one.
+-- The eye is at 0,0,0, and z falls along its view. Four of the six numbers are edges of a window, which in perspective is 1 away from the eye; the others say
+-- how far away the volume begins and ends.
 use Prim.Native.Nat.{ℕ}
 use mathlib.Core.Bool.{Bool, cond, _&&_}
 use mathlib.Core.List.{List, [], _∷_}
@@ -138,7 +139,7 @@ bounded p = everyBelow 6 (λ i. finite (at (extent p) i))
 unfoldable pub confirmed : ProjectionParams → Mat4d → Recovered
 confirmed p m = cond (bounded p && closeTo m (projecting p)) (Params p) NotAProjection
 
--- A perspective matrix holds −1 at row 2 and column 3, an orthographic one 0, each to within 1e-6.
+-- The number at row 2 and column 3 tells the kind: perspective where it is less than 1e-6 from −1, orthographic where it is less than that from 0.
 unfoldable pub recovered : Mat4d → Recovered
 recovered m =
     cond (lt (absOf (entry m 2 3 ⊕ one)) tolerance) (confirmed (perspectiveOf m) m)

@@ -1,3 +1,3 @@
-// Projections: what a projection matrix projects.
+// Projections: their numbers, and their matrices.
 pub mod projection;
 pub mod projection_calls;

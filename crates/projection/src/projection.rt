@@ -1,4 +1,4 @@
-// What a projection matrix projects: the kind of projection, and the volume of camera space that it keeps.
+// Projections: the numbers of one, the matrix that is built from them, and the numbers recovered from a matrix.
 ghost use mathlib.Core.Path.{_≡_};
 ghost use Rattle.projection.specs.Projection.{kindNumber, numbers, paramsOf, loaded, perspective, orthographic, projecting, around, perspectiveOf, orthographicOf, close, closeTo, bounded, confirmed, recovered, recoveredFrom};
 ghost use Rattle.matrix.specs.Constants.{positiveZero};
@@ -11,8 +11,7 @@ use number::order::upper;
 use number::slice;
 use number::slice::at;
 
-// How far a number of a matrix may be from the one that a projection holds there, as a fraction of the larger of the two
-// where that exceeds one.
+// Two numbers of a matrix are close where they differ by no more than this part of the larger size, or of 1 if neither is larger.
 pub const TOLERANCE: f64 = 1e-6;
 
 pub enum Projection {
@@ -20,8 +19,7 @@ pub enum Projection {
     Orthographic,
 }
 
-// The window from left to right and from bottom to top, and the distances to the near and the far end of the volume. The
-// window of a perspective projection stands at a distance of one from the camera.
+// The edges of a window, which in perspective is 1 away from the eye, and how far away the volume begins and ends.
 pub struct ProjectionParams {
     pub projection: Projection,
     pub left: f64,
@@ -38,7 +36,7 @@ pub enum Loaded {
     UnknownKind,
 }
 
-// What a matrix projects, or that it is no projection.
+// The volume that is recovered from a matrix, or that it is no projection.
 pub enum Recovered {
     Params(ProjectionParams),
     NotAProjection,
@@ -92,7 +90,7 @@ fn around(
     }
 }
 
-// The volume that a matrix projects if it is a perspective projection.
+// The volume of a matrix that is taken for a perspective one.
 fn perspective_of(m: Mat4d) -> ProjectionParams
     ensures { λ r. ⌜ r ≡ perspectiveOf m ⌝ }
 {
@@ -105,7 +103,7 @@ fn perspective_of(m: Mat4d) -> ProjectionParams
     around(Projection::Perspective, width, height, x, y, near, far)
 }
 
-// The volume that a matrix projects if it is an orthographic projection.
+// The volume of a matrix that is taken for an orthographic one.
 fn orthographic_of(m: Mat4d) -> ProjectionParams
     ensures { λ r. ⌜ r ≡ orthographicOf m ⌝ }
 {
@@ -189,7 +187,7 @@ fn gives_orthographic(volume: ProjectionParams, matrix: Mat4d) -> bool
         & close(matrix.r3.w, built.r3.w)
 }
 
-// The volume that a matrix projects as a perspective, if that gives the matrix back.
+// That of a perspective matrix, if the matrix can be built from it.
 fn perspective_from(matrix: Mat4d) -> Recovered
     ensures { λ r. ⌜ r ≡ confirmed (perspectiveOf matrix) matrix ⌝ }
 {
@@ -200,7 +198,7 @@ fn perspective_from(matrix: Mat4d) -> Recovered
     Recovered::NotAProjection
 }
 
-// The volume that a matrix projects as an orthographic projection, if that gives the matrix back.
+// That of an orthographic matrix, if the matrix can be built from it.
 fn orthographic_from(matrix: Mat4d) -> Recovered
     ensures { λ r. ⌜ r ≡ confirmed (orthographicOf matrix) matrix ⌝ }
 {
@@ -212,7 +210,7 @@ fn orthographic_from(matrix: Mat4d) -> Recovered
 }
 
 impl ProjectionParams {
-    // The matrix that sees through the window from the origin, along −Z.
+    // Its matrix in perspective.
     pub fn perspective(self) -> Mat4d
         ensures { λ r. ⌜ r ≡ perspective self ⌝ }
     {
@@ -247,7 +245,7 @@ impl ProjectionParams {
         }
     }
 
-    // The matrix that sees the box along −Z.
+    // Its matrix along parallels.
     pub fn orthographic(self) -> Mat4d
         ensures { λ r. ⌜ r ≡ orthographic self ⌝ }
     {
@@ -282,7 +280,7 @@ impl ProjectionParams {
         }
     }
 
-    // The matrix that projects this volume.
+    // Its matrix, by its kind.
     pub fn matrix(self) -> Mat4d
         ensures { λ r. ⌜ r ≡ projecting self ⌝ }
     {
@@ -308,7 +306,7 @@ impl ProjectionParams {
         slice::all_finite(&all)
     }
 
-    // The volume that a matrix projects.
+    // Recovered from a matrix.
     pub fn from_matrix(matrix: Mat4d) -> Recovered
         ensures { λ r. ⌜ r ≡ recovered matrix ⌝ }
     {
@@ -321,7 +319,7 @@ impl ProjectionParams {
         Recovered::NotAProjection
     }
 
-    // The volume that the matrix in a slice projects; a slice of another length holds none. A matrix that is passed by value is copied, which takes a quarter of
+    // The same of the matrix in a slice; a slice of another length holds none. A matrix that is passed by value is copied, which takes a quarter of
     // the time.
     pub fn from_record(m: &[f64]) -> Recovered
         ensures { λ r. ⌜ r ≡ recoveredFrom (now (m .entry)) ⌝ }

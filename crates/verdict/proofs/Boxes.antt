@@ -13,7 +13,7 @@ use Rattle.verdict.specs.declared.bbox.Inverse.{Inverse}
 pub same-box : {r r' : Range3d} {m m' : Mat4d} {f f' : Bool} → r ≡ r' → m ≡ m' → f ≡ f' → box r m f ≡ box r' m' f'
 same-box p q e = cc
 
--- ---- by emptiness: an empty box yields the other
+-- ---- by emptiness: the other box
 
 module _ (a b : BBox3d) (e : Bool) (p : e ≡ isEmpty (a .range)) where
   pub held-second : e ≡ true → b ≡ held a b

@@ -79,7 +79,7 @@ module _ (ps : List Plane) (c : ℕ) (count : length ps ≡ c) where
           (λ t. bitAnd (bitAnd (u t) (v t)) (w t)) ∙ ap (λ (k : ℕ). bitAnd k (sidesOf ps d)) (both (λ p. onPositiveSide p a) (λ p. onPositiveSide p b) ps)
           ∙ both (λ p. onPositiveSide p a && onPositiveSide p b) (λ p. onPositiveSide p d) ps
 
--- of the original planes the bits of the near and the far one
+-- of the bits of the original planes those of the near one and the far one
 pub near-and-far : (f : ℕ → Plane) (test : Plane → Bool) (m : ℕ) → m ≡ maskOf test (tabulate f fewestPlanes)
     → every test (nearAndFar (tabulate f fewestPlanes)) ≡ nearAndFarIn m
 unfolding maskOf tabulate

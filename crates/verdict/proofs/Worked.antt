@@ -130,7 +130,7 @@ rounded-gamma : triangleHit (down tenth fifth one) corner (vec one o o) (vec o o
 unfolding triangleHit hitOf planeHit faced weighed betaOf alphaOf gammaOf settled narrowOf normalized lengthOf sqrtOf absOf maxOf isNan add sub mul div neg lt le
 rounded-gamma = refl
 
--- past an edge by 1e-9, and a triangle of no area
+-- past an edge by 1e-9, and a triangle without area
 outside : triangleHitNumbers (triangleHit (down (neg (rounded 1 (10 ^ 9))) half one) corner (vec one o o) (vec o one o)) ≡ refused 5
 unfolding triangleHit hitOf planeHit faced weighed betaOf alphaOf gammaOf settled narrowOf normalized lengthOf sqrtOf absOf maxOf isNan add sub mul div neg lt le
 outside = refl

@@ -1,4 +1,4 @@
--- Boxes in a space of their own, placed by a matrix, as Gf's documentation has them. Definitions only.
+-- Boxes at any angle, as Gf's documentation has them: a range, and the matrix that places it in the world. Definitions only.
 use Prim.Native.Nat.{_+_, _*_, _^_}
 use mathlib.Core.Bool.{Bool, true, false, not, cond, _||_}
 use mathlib.Core.List.{List, [], _∷_, _++_}
@@ -57,30 +57,30 @@ isDegenerate b = not (intoBox b .exists)
 
 -- ---- in the world
 
--- "The axis-aligned range holding the box in world space"
+-- from the least to the greatest of the placed box along each axis
 abbrev pub alignedRange : BBox3d → Range3d
 alignedRange b = transformed (b .range) (b .matrix)
 
 abbrev pub centroid : BBox3d → Vec3d
 centroid b = transformedPoint (b .matrix) (midpoint (b .range))
 
--- zero for an empty range
+-- an empty range has none
 unfoldable pub volume : BBox3d → Float
 volume b =
     let s = size (b .range) in
     cond (isEmpty (b .range)) positiveZero (absOf (determinant3 (b .matrix) ⊗ s .x ⊗ s .y ⊗ s .z))
 
--- "Apply matrix after the box's own"
+-- moved by m, as by a turn: "a box takes the product of its placement and the turn"
 abbrev pub transformedBox : BBox3d → Mat4d → BBox3d
 transformedBox b m = box (b .range) (product (b .matrix) m) (b .flag)
 
 -- ---- combining
 
--- the box a, grown to hold b, which is projected into a's space by the inverse of a's matrix
+-- in the space of a: its range, united with that of b, which b's matrix and then the inverse of a's bring there
 unfoldable pub extended : BBox3d → BBox3d → Mat4d → BBox3d
 extended a b inverse = box (union (a .range) (transformed (b .range) (product (b .matrix) inverse))) (a .matrix) (a .flag)
 
--- volumes this close count as equal
+-- what two volumes may differ by and pass for one: a millionth of the larger, and at least 1e-10
 abbrev pub tolerance : Float → Float → Float
 tolerance v w = maxOf (rounded 1 (10 ^ 6) ⊗ absOf (maxOf v w)) (rounded 1 (10 ^ 10))
 
@@ -95,8 +95,8 @@ smaller a b = cond (preferred (volume a) (volume b)) a b
 abbrev pub aligned : BBox3d → BBox3d → BBox3d
 aligned a b = box (union (alignedRange a) (alignedRange b)) identity false
 
--- Of two ranges that are not empty, by the inverses of their boxes' matrices: one is projected into the other's space, both ways round. A box whose matrix has
--- no inverse is always the one projected, and two such boxes merge as their aligned ranges.
+-- Of two boxes whose ranges are not empty, with the inverses of their matrices. There is a candidate in the space of each that has an inverse, and of two the
+-- smaller is taken; where neither has one, the range is in the world.
 unfoldable pub merged : BBox3d → BBox3d → Inverse → Inverse → BBox3d
 unfolding extended smaller
 merged a b i j =
@@ -104,7 +104,7 @@ merged a b i j =
     (cond (j .exists) (smaller (extended a b (i .matrix)) (extended b a (j .matrix))) (extended a b (i .matrix)))
     (cond (j .exists) (extended b a (j .matrix)) (aligned a b))
 
--- an empty box yields the other
+-- where a range is empty it is the other box, and b where both are
 unfoldable pub held : BBox3d → BBox3d → BBox3d
 unfolding merged
 held a b = cond (isEmpty (a .range)) b (cond (isEmpty (b .range)) a (merged a b (intoBox a) (intoBox b)))

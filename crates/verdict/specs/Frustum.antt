@@ -1,5 +1,5 @@
--- The verdicts of a view, in the operation order of frustum.rs. A view is a list of planes that face into it, six of them in gf and any
--- number here; and for triangles a list of rays, its lines of sight. They are asked of finite numbers alone, so that a NaN is met only where an operation
+-- The verdicts of a view, in the operation order of frustum.rs. A view is a list of planes that have it on their positive sides, six of them in gf and any
+-- number here; and for triangles a list of rays. They are asked of finite numbers alone, so that a NaN is met only where an operation
 -- overflows: the distance of the plane 2,-2,0;0 from the point 1e308,1e308,0 is one, and is not on the positive side. Definitions only.
 use Prim.Native.Nat.{ℕ}
 use mathlib.Core.Bool.{Bool, true, false, not, cond, _&&_, _||_, Bool·beq}
@@ -62,20 +62,20 @@ spanLeft (p ∷ ps) a b start end =
     let end' = endCut inA inB end at in
     (Bool·beq inA inB || not (lt end' start')) && spanLeft ps a b start' end'
 
--- Not both ends are behind one plane; and then an end is inside every plane, or the planes leave some of the span from 0 to 1.
+-- Every plane has an end on its positive side; and then all have the same end there, or they leave some of the span from 0 to 1.
 unfoldable pub segmentInView : List Plane → Vec3d → Vec3d → Bool
 unfolding every pointInView spanLeft
 segmentInView ps a b = every (hasEnd a b) ps && (pointInView ps a || pointInView ps b || spanLeft ps a b positiveZero one)
 
--- ---- a box: every plane, brought into the box's own space, is reached by its range
+-- ---- a box: in its space its range reaches every plane
 
--- The box's matrix is the inverse of the one into its space, and its transpose carries a plane there.
+-- Planes go there by the inverse of the matrix that places the box, and so their equations by the transpose of the matrix itself.
 -- "The plane tests take a degenerate box as if its matrix were the identity." One with the rows 1e200,1e200,0,0 twice, then 0,0,1,0 and 0,0,0,1 is, since its
 -- determinant overflows to a NaN.
 abbrev pub intoSpaceOf : BBox3d → Mat4d
 intoSpaceOf b = cond (isDegenerate b) identity (transpose (b .matrix))
 
--- An empty box is not in view.
+-- A box with an empty range is not in view.
 unfoldable pub boxInView : List Plane → BBox3d → Bool
 unfolding every
 boxInView ps b = not (isEmpty (b .range)) && every (λ p. reachesPositiveSide (underInverseTranspose (intoSpaceOf b) p) (b .range)) ps
@@ -99,11 +99,11 @@ unfoldable pub someHit : List Ray → Vec3d → Vec3d → Vec3d → Bool
 someHit [] a b c = false
 someHit (r ∷ rs) a b c = isHit (triangleHit r a b c) || someHit rs a b c
 
--- the lines of sight that are tried: one settles it for a triangle between the near and the far plane
+-- the rays that are tried: the first alone where the near and the far plane have all three points on their positive side
 abbrev pub sightLines : List Plane → List Ray → Vec3d → Vec3d → Vec3d → List Ray
 sightLines ps rs a b c = take (cond (every (hasCorners a b c) (nearAndFar ps)) 1 rayCount) rs
 
--- Not all are behind one plane; and then a corner is inside, or some of a side is, or the triangle surrounds the view, so that a line of sight meets it.
+-- Every plane has a corner on its positive side; and then a corner is in view, or some of a side, or a ray meets the triangle.
 -- "The triangle verdict uses the original six and its corner rays": of all planes those in front.
 unfoldable pub triangleInView : List Plane → List Ray → Vec3d → Vec3d → Vec3d → Bool
 unfolding every pointInView segmentInView someHit
@@ -122,7 +122,7 @@ clipCorner b m k =
     let c = corner (b .range) k in
     homogeneous (product (b .matrix) m) (record { x = c .x; y = c .y; z = c .z; w = one })
 
--- Along each axis some corner is inside each of two bounds, w and its negation: "`intersects_view_volume` uses strict comparisons".
+-- Of x, of y and of z: it is below w at some corner, and above −w at some corner, which may be another. "`intersects_view_volume` uses strict comparisons".
 unfoldable pub boxInViewVolume : BBox3d → Mat4d → Bool
 unfolding someBelow everyBelow
 boxInViewVolume b m =

@@ -1,5 +1,5 @@
--- Planes that divide space in two, as Gf's documentation has them: a normal, which the verdicts do not need to be of unit length, and a distance along it, floats of any kind. Definitions
--- and a statement only.
+-- Planes, as Gf's documentation has them: a normal, which the verdicts do not need to be of unit length, and a distance along it, floats of any kind.
+-- Definitions and a statement only.
 use mathlib.Core.Path.{_≡_}
 use mathlib.Core.Bool.{Bool, true, not, _&&_, cond}
 use mathlib.Core.List.{List, [], _∷_, _++_}
@@ -36,11 +36,11 @@ planeOf s = plane (vec3Of s) (at s 3)
 
 -- ---- planes from a normal, from points, from an equation
 
--- the normal is made unit length
+-- the normal is normalized, and the distance kept
 abbrev pub facing : Vec3d → Float → Plane
 facing n d = plane (normalized n) d
 
--- through three points, facing the side from which they run counter-clockwise
+-- on which the three points lie; seen from its positive side they go round against the clock
 abbrev pub fromPoints : Vec3d → Vec3d → Vec3d → Plane
 fromPoints p0 p1 p2 = let n = normalized (cross (difference p1 p0) (difference p2 p0)) in plane n (dot n p0)
 
@@ -48,7 +48,7 @@ fromPoints p0 p1 p2 = let n = normalized (cross (difference p1 p0) (difference p
 unfoldable pub offset : Float → Float → Float
 offset w length = cond (eq length positiveZero) (neg w) (neg w ⊘ length)
 
--- the points where a x + b y + c z + w is zero, for the equation (a, b, c, w)
+-- by the equation n · x + w = 0, of which n is the first three numbers: it faces along n, and its distance is −w over the length of n
 abbrev pub fromEquation : Vec4d → Plane
 fromEquation e = let n = vec3 (axis4 e) in plane (normalized n) (offset (e .w) (lengthOf n))
 
@@ -57,19 +57,19 @@ equation p = record { x = p .normal .x; y = p .normal .y; z = p .normal .z; w = 
 
 -- ---- its two sides
 
--- how far a point is from the plane, positive on the side that the normal points into
+-- "the dot product of normal and point, less the distance"
 abbrev pub distanceTo : Plane → Vec3d → Float
 distanceTo p x = dot x (p .normal) ⊖ p .distance
 
--- on the plane or in its positive half-space: "A NaN distance is not on the positive side."
+-- it is at least 0, so that touching counts: "A NaN distance is not on the positive side."
 abbrev pub onPositiveSide : Plane → Vec3d → Bool
 onPositiveSide p x = le positiveZero (distanceTo p x)
 
--- the end of a span that a number of a normal points toward
+-- along an axis the greatest of a range, or the least where the normal's number there is below 0 or a NaN
 unfoldable pub endToward : Float → Float → Float → Float
 endToward n low high = cond (le positiveZero n) high low
 
--- the corner of a range that lies furthest along a normal
+-- so along each axis: of the corners of a range the one whose dot product with the normal is greatest
 abbrev pub furthest : Vec3d → Range3d → Vec3d
 furthest n r = vec3 (λ i. endToward (axis n i) (axis (r .min) i) (axis (r .max) i))
 
@@ -77,7 +77,7 @@ furthest n r = vec3 (λ i. endToward (axis n i) (axis (r .min) i) (axis (r .max)
 abbrev pub reachAlong : Vec3d → Range3d → Float
 reachAlong n r = let c = furthest n r in zeroOf true ⊕ n .x ⊗ c .x ⊕ n .y ⊗ c .y ⊕ n .z ⊗ c .z
 
--- any of the range is on the plane or in its positive half-space; an empty one has nothing there
+-- a range that is not empty comes at least as far along the normal as the plane
 unfoldable pub reachesPositiveSide : Plane → Range3d → Bool
 reachesPositiveSide p r = not (isEmpty r) && le (p .distance) (reachAlong (p .normal) r)
 
@@ -87,7 +87,7 @@ ReachFromEitherZero = (s : Bool) (d : Float) (n c : Vec3d) → le d (zeroOf s �
 
 -- ---- a plane through a matrix
 
--- its equation is carried by the transpose of the inverse
+-- Where m is the transpose of the inverse of what moves points: a point of the plane, moved, satisfies the equation that m makes of the plane's as a row.
 abbrev pub underInverseTranspose : Mat4d → Plane → Plane
 underInverseTranspose m p = fromEquation (homogeneous m (equation p))
 

@@ -39,11 +39,11 @@ rayOf s = ray (vec3Of s) (vec3 (λ i. at s (3 + i)))
 
 -- ---- along the ray, and through a matrix
 
--- a distance is in lengths of the direction
+-- a distance counts directions, which may be of any length
 abbrev pub pointAt : Ray → Float → Vec3d
 pointAt r d = sum (r .start) (multiple (r .direction) d)
 
--- the start as a point, the direction as a direction
+-- the start moves as points do, and the direction without the translation
 abbrev pub transformed : Mat4d → Ray → Ray
 transformed m r = ray (transformedPoint m (r .start)) (direction m (r .direction))
 
@@ -53,11 +53,12 @@ transformed m r = ray (transformedPoint m (r .start)) (direction m (r .direction
 abbrev pub facing : Ray → Plane → Float
 facing r p = dot (r .direction) (p .normal)
 
--- how far along the ray the plane is, by the point of the plane on its normal
+-- where the ray has come as far along the normal as the point that is normal times distance, through which a plane of unit normal goes
 abbrev pub distanceAlong : Ray → Plane → Float
 distanceAlong r p = dot (difference (multiple (p .normal) (p .distance)) (r .start)) (p .normal) ⊘ facing r p
 
--- "`intersect_plane` misses if |facing| < 1e-10: 9e-11 misses, 1e-10 goes on. Distance zero hits." The front is the side that the normal points into.
+-- "`intersect_plane` misses if |facing| < 1e-10: 9e-11 misses, 1e-10 goes on. Distance zero hits." The front is the positive side: a ray that meets it runs
+-- against the normal.
 unfoldable pub planeHit : Ray → Plane → PlaneHit
 planeHit r p =
     cond (lt (absOf (facing r p)) minLength) Miss
@@ -83,7 +84,7 @@ projected Z p = record { u = p .x; v = p .y }
 unfoldable pub settled : Float → Float
 settled w = cond (lt w positiveZero && lt (neg minLength) w) positiveZero w
 
--- The weights of the third point, the second and the first. d0 is the place met, d1 and d2 are the second and the third point, all from the first and projected.
+-- The weights of the third point, the second and the first. d0 is the point met, d1 the second point and d2 the third, all from the first and projected.
 unfoldable pub betaOf : Flat → Flat → Flat → Float
 betaOf d0 d1 d2 = settled ((d0 .v ⊗ d1 .u ⊖ d0 .u ⊗ d1 .v) ⊘ (d2 .v ⊗ d1 .u ⊖ d2 .u ⊗ d1 .v))
 

@@ -1,4 +1,4 @@
--- A view: planes that face into it, and lines of sight along its corners. Its record, which the papers call the volume, holds its planes within their limits:
+-- A view: planes that have it on their positive sides, and rays along its edges. Its record, which the papers call the volume, holds planes within limits:
 -- "a whole count first, the planes with the original six in front, then the four rays". What says where its numbers stand is here. Definitions only.
 use Prim.Native.Nat.{ℕ, zero, suc, _+_, _*_}
 use mathlib.Core.Bool.{Bool, _&&_}
@@ -97,6 +97,6 @@ rayAt s n i =
     let from = rayStart n i in
     ray (vec3 (λ j. at s (from + j))) (vec3 (λ j. at s (from + 3 + j)))
 
--- the lines of sight along the view's corners, behind n planes
+-- the rays along the view's edges, behind n planes
 abbrev pub raysOf : List Float → ℕ → List Ray
 raysOf s n = tabulate (rayAt s n) rayCount

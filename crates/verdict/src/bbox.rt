@@ -1,4 +1,4 @@
-// Boxes in a space of their own, each placed by a matrix.
+// Boxes: ranges, each with the matrix that places it in the world.
 ghost use mathlib.Core.Path.{_≡_};
 ghost use mathlib.Core.Bool.{_||_};
 ghost use lib.ListN.{length};
@@ -15,7 +15,7 @@ use number::order;
 use number::slice;
 use number::slice::at;
 
-// The range, the matrix from its space to the world's, and whether it bounds something with no area.
+// A range, the matrix that places it, and the zero-area flag.
 pub struct BBox3d {
     pub range: Range3d,
     pub matrix: Mat4d,
@@ -28,7 +28,7 @@ pub struct Inverse {
     pub exists: bool,
 }
 
-// The determinant at or under which a matrix is taken to have no inverse.
+// A box's matrix has an inverse if its determinant is larger than this in size.
 const PRECISION_LIMIT: f64 = 1e-13;
 
 // Whether a number is one of a flag's: a zero of either sign, or 1.
@@ -41,7 +41,7 @@ pub fn is_flag(x: f64) -> bool
     x == 1.0
 }
 
-// Whether the first of two volumes is taken: volumes this close count as equal.
+// Whether the first of two volumes is taken: it is smaller, or larger by the tolerance at most.
 pub fn preferred(v: f64, w: f64) -> bool
     ensures { λ r. ⌜ r ≡ preferred v w ⌝ }
 {
@@ -109,7 +109,7 @@ impl BBox3d {
         order::abs(volume)
     }
 
-    // Under a matrix applied after its own.
+    // Moved by a matrix.
     pub fn transform(self, m: Mat4d) -> BBox3d
         ensures { λ r. ⌜ r ≡ transformedBox self m ⌝ }
     {
@@ -133,7 +133,7 @@ impl BBox3d {
         self.matrix.transform(self.range.midpoint())
     }
 
-    // Grown to hold another box, which the inverse of its own matrix projects into its space.
+    // In its own space with another box, which the inverse of its matrix brings there.
     pub fn extended_by(self, other: BBox3d, inverse: Mat4d) -> BBox3d
         ensures { λ r. ⌜ r ≡ extended self other inverse ⌝ }
     {
@@ -156,7 +156,7 @@ impl BBox3d {
         other
     }
 
-    // Two boxes whose matrices have no inverse, as their aligned ranges.
+    // Of two boxes without an inverse: their aligned ranges united, in the world.
     pub fn aligned_with(self, other: BBox3d) -> BBox3d
         ensures { λ r. ⌜ r ≡ aligned self other ⌝ }
     {
@@ -199,7 +199,7 @@ impl BBox3d {
         self.merged(other)
     }
 
-    // A box that holds both.
+    // One box with both in it.
     pub fn combine(self, other: BBox3d) -> BBox3d
         ensures { λ r. ⌜ r ≡ combined self other ⌝ }
     {

@@ -15,7 +15,7 @@ use number::limits::POINT_LENGTH;
 use number::limits::RANGE_LENGTH;
 use number::slice::at;
 
-// A box that holds two others.
+// Two boxes combined into one.
 pub fn combine(a: &[f64], b: &[f64], out: &mut [f64]) -> Written
     ensures { λ r. ⌜ reply r (now (out .exit)) ≡ combineCall (now (a .entry)) (now (b .entry)) (now (out .entry)) ⌝ }
 {
@@ -38,7 +38,7 @@ pub fn combine(a: &[f64], b: &[f64], out: &mut [f64]) -> Written
     Written::Done
 }
 
-// A box under a matrix applied after its own.
+// A box moved by a matrix.
 pub fn transform(b: &[f64], m: &[f64], out: &mut [f64]) -> Written
     ensures { λ r. ⌜ reply r (now (out .exit)) ≡ transformBoxCall (now (b .entry)) (now (m .entry)) (now (out .entry)) ⌝ }
 {
@@ -58,7 +58,7 @@ pub fn transform(b: &[f64], m: &[f64], out: &mut [f64]) -> Written
     Written::Done
 }
 
-// The volume of a box in the world.
+// The volume of a placed box.
 pub fn volume(b: &[f64]) -> Scalar
     ensures { λ r. ⌜ scalarOf r ≡ volumeCall (now (b .entry)) ⌝ }
 {
@@ -71,7 +71,7 @@ pub fn volume(b: &[f64]) -> Scalar
     Scalar::Value(BBox3d::load(b).volume())
 }
 
-// The range along the axes that holds a box in the world.
+// The least and the greatest of a placed box along each axis.
 pub fn aligned_range(b: &[f64], out: &mut [f64]) -> Written
     ensures { λ r. ⌜ reply r (now (out .exit)) ≡ alignedRangeCall (now (b .entry)) (now (out .entry)) ⌝ }
 {
@@ -88,7 +88,7 @@ pub fn aligned_range(b: &[f64], out: &mut [f64]) -> Written
     Written::Done
 }
 
-// The centre of a box in the world.
+// The midpoint of a box's range, placed.
 pub fn centroid(b: &[f64], out: &mut [f64]) -> Written
     ensures { λ r. ⌜ reply r (now (out .exit)) ≡ centroidCall (now (b .entry)) (now (out .entry)) ⌝ }
 {

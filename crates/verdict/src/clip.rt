@@ -7,7 +7,7 @@ use matrix::matrix::Mat4d;
 use matrix::range::Range3d;
 use matrix::vec::Vec4d;
 
-// The bounds that some corner is inside of.
+// The sides of clip space that some corner is within.
 struct Sides {
     right: bool,
     left: bool,
@@ -51,7 +51,7 @@ impl Sides {
     }
 }
 
-// One pass over the corners. The bounds are strict.
+// One pass over the corners. The comparisons are strict.
 pub fn intersects_view_volume(b: BBox3d, m: Mat4d) -> bool
     ensures { λ r. ⌜ r ≡ boxInViewVolume b m ⌝ }
 {

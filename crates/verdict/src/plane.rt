@@ -1,4 +1,4 @@
-// A plane that divides space in two.
+// Planes, and on which side of one a point or a range is.
 ghost use mathlib.Core.Path.{_≡_};
 ghost use Rattle.verdict.specs.Plane.{numbers, planeOf, facing, fromPoints, offset, fromEquation, equation, distanceTo, onPositiveSide, endToward, reachesPositiveSide, underInverseTranspose, transformed};
 ghost use Rattle.number.specs.Slice.{stored};
@@ -10,13 +10,13 @@ use matrix::vec::Vec4d;
 use number::slice;
 use number::slice::at;
 
-// The normal that it faces along, and how far along it the plane stands from the origin.
+// On its positive side a point has a dot product with the normal of at least the distance.
 pub struct Plane {
     pub normal: Vec3d,
     pub distance: f64,
 }
 
-// A plane under a matrix, or that the matrix has no inverse.
+// A plane moved by a matrix, or that the matrix is singular.
 pub enum Transformed {
     To(Plane),
     Singular,
@@ -32,7 +32,7 @@ fn offset(w: f64, length: f64) -> f64
     -w / length
 }
 
-// The end of a span that a number of a normal points toward.
+// Along an axis the greatest of a range, or the least where the normal's number there is below 0 or a NaN.
 pub(crate) fn end_toward(n: f64, min: f64, max: f64) -> f64
     ensures { λ r. ⌜ r ≡ endToward n min max ⌝ }
 {
@@ -43,7 +43,7 @@ pub(crate) fn end_toward(n: f64, min: f64, max: f64) -> f64
 }
 
 impl Plane {
-    // The plane that faces along a normal, which is made unit length.
+    // From a normal of any length, which is normalized, and a distance.
     pub fn new(normal: Vec3d, distance: f64) -> Plane
         ensures { λ r. ⌜ r ≡ facing normal distance ⌝ }
     {
@@ -53,7 +53,7 @@ impl Plane {
         }
     }
 
-    // The plane through three points, facing the side from which they run counter-clockwise.
+    // From three points on it, which seen from its positive side go round against the clock.
     pub fn from_points(p0: Vec3d, p1: Vec3d, p2: Vec3d) -> Plane
         ensures { λ r. ⌜ r ≡ fromPoints p0 p1 p2 ⌝ }
     {
@@ -64,7 +64,7 @@ impl Plane {
         }
     }
 
-    // The plane of the points where x, y and z times the first three numbers, plus the last, is zero.
+    // From an equation n · x + w = 0, as the numbers of n and then w.
     pub fn from_equation(equation: Vec4d) -> Plane
         ensures { λ r. ⌜ r ≡ fromEquation equation ⌝ }
     {
@@ -91,7 +91,7 @@ impl Plane {
         }
     }
 
-    // How far a point is from the plane, positive on the side that the normal points into.
+    // The dot product of normal and point, less the plane's distance.
     pub fn distance(self, point: Vec3d) -> f64
         ensures { λ r. ⌜ r ≡ distanceTo self point ⌝ }
     {
@@ -104,7 +104,7 @@ impl Plane {
         self.distance(point) >= 0.0
     }
 
-    // Whether any of a range is on the plane or in its positive half-space.
+    // Whether a range that is not empty comes at least as far along the normal as the plane.
     pub fn reaches_positive_side(self, range: Range3d) -> bool
         ensures { λ r. ⌜ r ≡ reachesPositiveSide self range ⌝ }
     {
@@ -119,7 +119,7 @@ impl Plane {
         self.normal.dot(furthest) >= self.distance
     }
 
-    // The plane under a transform, of which the transpose of the inverse is given.
+    // Moved by a matrix, of whose inverse the transpose is given.
     pub fn under_inverse_transpose(self, inverse_transpose: Mat4d) -> Plane
         ensures { λ r. ⌜ r ≡ underInverseTranspose «inverse_transpose» self ⌝ }
     {

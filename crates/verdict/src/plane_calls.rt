@@ -16,7 +16,7 @@ use number::limits::MATRIX_LENGTH;
 use number::limits::PLANE_LENGTH;
 use number::limits::POINT_LENGTH;
 
-// The plane that faces along a normal, at a distance from the origin.
+// A plane from a normal and a distance.
 pub fn new(normal: &[f64], distance: f64, out: &mut [f64]) -> Written
     ensures { λ r. ⌜ reply r (now (out .exit)) ≡ newPlaneCall (now (normal .entry)) distance (now (out .entry)) ⌝ }
 {
@@ -30,7 +30,7 @@ pub fn new(normal: &[f64], distance: f64, out: &mut [f64]) -> Written
     Written::Done
 }
 
-// The plane through three points.
+// A plane from three points on it.
 pub fn from_points(p0: &[f64], p1: &[f64], p2: &[f64], out: &mut [f64]) -> Written
     ensures { λ r. ⌜ reply r (now (out .exit)) ≡ fromPointsCall (now (p0 .entry)) (now (p1 .entry)) (now (p2 .entry)) (now (out .entry)) ⌝ }
 {
@@ -50,7 +50,7 @@ pub fn from_points(p0: &[f64], p1: &[f64], p2: &[f64], out: &mut [f64]) -> Writt
     Written::Done
 }
 
-// The plane of an equation.
+// A plane from its equation.
 pub fn from_equation(equation: &[f64], out: &mut [f64]) -> Written
     ensures { λ r. ⌜ reply r (now (out .exit)) ≡ fromEquationCall (now (equation .entry)) (now (out .entry)) ⌝ }
 {
@@ -64,7 +64,7 @@ pub fn from_equation(equation: &[f64], out: &mut [f64]) -> Written
     Written::Done
 }
 
-// How far a point is from a plane.
+// The signed distance of a point from a plane.
 pub fn distance(plane: &[f64], p: &[f64]) -> Scalar
     ensures { λ r. ⌜ scalarOf r ≡ distanceCall (now (plane .entry)) (now (p .entry)) ⌝ }
 {
@@ -77,7 +77,7 @@ pub fn distance(plane: &[f64], p: &[f64]) -> Scalar
     Scalar::Value(Plane::load(plane).distance(Vec3d::load(p)))
 }
 
-// Whether a point is on a plane or in its positive half-space.
+// Whether a point is on the positive side of a plane, touching included.
 pub fn on_positive_side(plane: &[f64], p: &[f64]) -> Verdict
     ensures { λ r. ⌜ verdictOf r ≡ sideCall (now (plane .entry)) (now (p .entry)) ⌝ }
 {
@@ -90,7 +90,7 @@ pub fn on_positive_side(plane: &[f64], p: &[f64]) -> Verdict
     Verdict::of(Plane::load(plane).on_positive_side(Vec3d::load(p)))
 }
 
-// A plane under a matrix. It is refused as singular where the matrix has no inverse.
+// A plane moved by a matrix. A singular matrix is refused.
 pub fn transformed(plane: &[f64], m: &[f64], out: &mut [f64]) -> Written
     ensures { λ r. ⌜ reply r (now (out .exit)) ≡ transformedPlaneCall (now (plane .entry)) (now (m .entry)) (now (out .entry)) ⌝ }
 {

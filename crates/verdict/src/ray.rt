@@ -16,20 +16,20 @@ use number::order::is_within;
 use number::slice;
 use number::slice::at;
 
-// A point and a direction. A distance along the ray is in lengths of the direction.
+// Distances along it count directions, which may be of any length.
 pub struct Ray {
     pub start: Vec3d,
     pub direction: Vec3d,
 }
 
-// Where a ray meets a plane, and whether on the side that the normal points into; or that it misses.
+// A ray's hit on a plane: the distance, and whether on the front, which is the positive side. Or a miss.
 pub enum PlaneHit {
     At { distance: f64, front: bool },
     Miss,
 }
 
-// Where a ray meets a triangle: the distance, the weights of the first, second and third point, and whether on the
-// side on which the points run counter-clockwise. Or why there is no such place.
+// A ray's hit on a triangle: the distance, the weights of the first, second and third point, and whether on the front, from which
+// the points go round against the clock. Or why there is none.
 pub enum TriangleHit {
     Hit {
         distance: f64,
@@ -52,7 +52,7 @@ pub struct Meeting {
     pub hit: bool,
 }
 
-// The axis that a plane faces most.
+// The axis along which a normal is longest.
 enum Axis {
     X,
     Y,
@@ -119,7 +119,7 @@ fn projected(axis: Axis, v: Vec3d) -> Flat
     }
 }
 
-// A weight that falls short of zero by less than 1e-10 counts as zero.
+// 0 for a weight strictly between −1e-10 and 0, and every other as it is.
 fn settled(weight: f64) -> f64
     ensures { λ r. ⌜ r ≡ settled weight ⌝ }
 {
@@ -132,7 +132,7 @@ fn settled(weight: f64) -> f64
     weight
 }
 
-// The third weight. It is held in single precision.
+// The weight of the first point, rounded through f32.
 fn gamma(alpha: f64, beta: f64) -> f64
     ensures { λ r. ⌜ r ≡ gammaOf alpha beta ⌝ }
 {
@@ -242,7 +242,7 @@ impl Triangle {
 }
 
 impl Ray {
-    // The start moved by a number of directions.
+    // The start plus so many directions.
     pub fn point(self, distance: f64) -> Vec3d
         ensures { λ r. ⌜ r ≡ pointAt self distance ⌝ }
     {

@@ -33,7 +33,7 @@ pub fn point(ray: &[f64], distance: f64, out: &mut [f64]) -> Written
     Written::Done
 }
 
-// A ray under a matrix.
+// A ray moved by a matrix.
 pub fn transformed(ray: &[f64], m: &[f64], out: &mut [f64]) -> Written
     ensures { λ r. ⌜ reply r (now (out .exit)) ≡ transformedRayCall (now (ray .entry)) (now (m .entry)) (now (out .entry)) ⌝ }
 {
@@ -50,7 +50,7 @@ pub fn transformed(ray: &[f64], m: &[f64], out: &mut [f64]) -> Written
     Written::Done
 }
 
-// Where a ray meets a plane: the distance, and 1 for its front or 0 for its back. It is refused where it misses.
+// A ray's hit on a plane: the distance, and 1 for its front or 0 for its back. A miss is refused.
 pub fn intersect_plane(ray: &[f64], plane: &[f64], out: &mut [f64]) -> Written
     ensures { λ r. ⌜ reply r (now (out .exit)) ≡ planeHitCall (now (ray .entry)) (now (plane .entry)) (now (out .entry)) ⌝ }
 {
@@ -71,8 +71,8 @@ pub fn intersect_plane(ray: &[f64], plane: &[f64], out: &mut [f64]) -> Written
     Written::Done
 }
 
-// Where a ray meets a triangle: the distance, the weights of its three points, and 1 for its front or 0 for its back. It
-// is refused where it misses.
+// A ray's hit on a triangle: the distance, the weights of its three points, and 1 for its front or 0 for its back. A miss is
+// refused.
 pub fn intersect_triangle(
     ray: &[f64],
     p0: &[f64],

@@ -29,8 +29,7 @@ fn side_in_view(view: &[f64], a: Vec3d, a_sides: u64, b: Vec3d, b_sides: u64) ->
     gathered::span_left(view, FEWEST_PLANES, a, a_sides, b, b_sides)
 }
 
-// How many lines of sight are tried, by the planes that have all three points on their positive side: one where the near and the
-// far plane do.
+// How many rays are tried, by the planes that have all three points on their positive side: one where the near and the far plane do.
 fn sight_lines(sides: u64) -> u32
     ensures { λ r. ⌜ (r ≡ cond (nearAndFarIn sides) 1 rayCount) × (r ≤ rayCount) ⌝ }
 {
@@ -55,7 +54,7 @@ fn meets(ray: Ray, p0: Vec3d, p1: Vec3d, p2: Vec3d) -> bool
     }
 }
 
-// Whether one of the first lines of sight, behind so many planes, meets the triangle.
+// Whether one of the first rays, behind so many planes, meets the triangle.
 fn line_meets(view: &[f64], count: u32, lines: u32, p0: Vec3d, p1: Vec3d, p2: Vec3d) -> bool
     requires { ⌜ (lines ≤ rayCount) × IsView (now view) count ⌝ }
     ensures { λ r. ⌜ r ≡ someHit (take lines (raysOf (now (view .entry)) count)) p0 p1 p2 ⌝ }
@@ -70,7 +69,7 @@ fn line_meets(view: &[f64], count: u32, lines: u32, p0: Vec3d, p1: Vec3d, p2: Ve
     false
 }
 
-// Whether a triangle is in view, by the original planes: a corner is, or some of a side, or it surrounds the view, so that one of the record's rays meets it.
+// Whether a triangle is in view, by the original planes: a corner is, or some of a side, or one of the record's rays meets it.
 pub(crate) fn intersects_triangle(view: &[f64], count: u32, p0: Vec3d, p1: Vec3d, p2: Vec3d) -> bool
     requires { ⌜ IsView (now view) count ⌝ }
     ensures { λ r. ⌜ r ≡ triangleInView (planesOf (now (view .entry)) count) (raysOf (now (view .entry)) count) p0 p1 p2 ⌝ }

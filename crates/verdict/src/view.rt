@@ -1,5 +1,5 @@
-// A view as it is lent: how many planes it has, the planes, that face into it, then lines of sight along its corners. What knows
-// its layout is here.
+// A view as it is lent: how many planes it has, the planes, which have it on their positive sides, then rays along its edges. What
+// knows its layout is here.
 ghost use mathlib.Core.Path.{_≡_};
 ghost use Prim.Native.Nat.{_+_, _<_, _≤_};
 ghost use lib.ListN.{length};

@@ -54,7 +54,7 @@ endBy D D' end = cond (nonNeg D && not (nonNeg D')) (earlier end (crossingAt D D
 
 -- ---- the verdict, plane by plane
 
--- Both ends behind one plane is no. With no plane left the start must not be past the end: the same fraction is a yes.
+-- A plane that both ends are behind makes it no. With no plane left the start must not be past the end: the same fraction is a yes.
 unfoldable pub leaves : List WholePlane → (ℕ → ℤ) → (ℕ → ℤ) → Fraction → Fraction → Bool
 leaves [] A B start end = not (less end start)
 leaves (P ∷ Ps) A B start end =

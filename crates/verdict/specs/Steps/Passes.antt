@@ -61,7 +61,7 @@ nearAndFarIn m = eqb (m / 2 ^ nearPlane % 4) 3
 abbrev pub sideLeft : List Plane → Vec3d → Vec3d → Bool
 sideLeft ps a b = every (hasEnd a b) ps && spanLeft ps a b positiveZero one
 
--- ---- the bounds of clip space that some corner of a box is inside of
+-- ---- the sides of clip space that some corner of a box is within
 
 -- corner k of a range, under a matrix
 abbrev pub cornerUnder : Range3d → Mat4d → ℕ → Vec4d
