@@ -18,7 +18,7 @@ blockingPlaneCall v p0 p1 =
     andThen (intersectsSegmentCall v p0 p1) (λ seen.
     unless (not seen) (refused 14) (andThen (planesHeld v) (λ n. result (blockingPlane (planesOf v n) (vec3Of p0) (vec3Of p1)))))
 
--- The checks of the box verdict, "Order: as gf_intersects_bbox", and then the bits of the planes that the volume holds.
+-- The checks of the box verdict, and then the bits of the planes that the volume holds.
 unfoldable pub blockingPlanesCall : List Float → List Float → Outcome ℕ
 unfolding intersectsBoxCall planesHeld blockingPlanes
 blockingPlanesCall v b = andThen (intersectsBoxCall v b) (λ seen. andThen (planesHeld v) (λ n. result (blockingPlanes (planesOf v n) (boxOf b))))

@@ -1,7 +1,8 @@
--- The planes that a box is wholly behind, with a bit for each place: "bit i set: by the box verdict's own test the box does not reach plane i; an empty range reaches
--- none, and all n bits are set". Definitions only.
--- That test rounds: in the space of the box it makes a plane's normal unit length. By axis planes on the farm grid nothing is lost (farmgrid/specs/PlanesBehind). By oblique
--- planes a bit is not the exact answer: of the plane -1,-1,-1;-3 the box 0,0,3 to 1,1,4 has its corner 0,0,3, and yet gets the bit.
+-- The planes that a box is wholly behind, with a bit for each place: it is set where the box verdict by that plane alone is no. A box with an empty range is
+-- behind every plane. Definitions only.
+-- That verdict rounds: in the space of the box it makes a plane's normal unit length. By axis planes on the farm grid nothing is lost
+-- (farmgrid/specs/PlanesBehind). By oblique planes a bit is not the exact answer: of the plane -1,-1,-1;-3 the box 0,0,3 to 1,1,4 has its corner 0,0,3, and yet
+-- gets the bit.
 use Prim.Native.Nat.{ℕ, _+_, _^_}
 use mathlib.Core.Bool.{Bool, not}
 use mathlib.Core.List.{List, [], _∷_}

@@ -26,11 +26,11 @@ isSet m i = eqb (m / 2 ^ i % 2) 1
 abbrev pub BitsMean : Type 0
 BitsMean = (ps : List Plane) (b : BBox3d) (i : ℕ) → T (isSet (blockingPlanes ps b) i) ↔ ((i < length ps) × T (isBehind ps b i))
 
--- "an empty range reaches none, and all n bits are set"
+-- A box with an empty range is behind every plane.
 abbrev pub EmptyBehindAll : Type 0
 EmptyBehindAll = (ps : List Plane) (b : BBox3d) → isEmpty (b .range) ≡ true → blockingPlanes ps b ≡ 2 ^ length ps - 1
 
--- "0 exactly where gf_intersects_bbox answers yes"
+-- It is behind no plane exactly where the box verdict is yes.
 abbrev pub NoBitMeans : Type 0
 NoBitMeans = (v b : List Float) → (blockingPlanesCall v b ≡ result 0) ↔ (intersectsBoxCall v b ≡ result true)
 

@@ -1,5 +1,5 @@
 -- What the exact verdict on a box answers, and what it leaves in the slice lent for a witness. Definitions only.
--- "view [..] (1 + 4n), [..] box [..] (6: least, greatest corner of the placed box), [..] witness [..] (4: x, y, z, k)"
+-- The view is that of whole/specs/SegmentCall. A box is two corners, as it is placed: three numbers of the least and three of the greatest.
 use mathlib.Core.Path.{_≡_}
 use mathlib.Core.Logic.{_⊎_}
 use mathlib.Core.Bool.{Bool, true, false, _&&_}
@@ -45,8 +45,9 @@ axisWithin box j = within gridLimit (lowCorner box j) && within gridLimit (highC
 abbrev pub boxWithin : List ℤ → Bool
 boxWithin box = axisWithin box 0 && axisWithin box 1 && axisWithin box 2
 
--- How many planes a view has, where nothing is refused: "Order: 1 (box of another length, view below 25), 12, 1, 2, then 7 (a number outside its grid limit, or a
--- least coordinate past its greatest)". The witness has room for so many numbers.
+-- How many planes a view has, where nothing is refused: 1 for the box's length and for a view below that of the fewest planes, 12 for the count, 1 for another
+-- length than the count's, 2 for the witness, 7 for a number past its limit and for a least coordinate above its greatest. The witness has room for so many
+-- numbers.
 unfoldable pub checked : List ℤ → List ℤ → ℕ → Outcome ℕ
 unfolding every
 checked view box room =

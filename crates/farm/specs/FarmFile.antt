@@ -92,7 +92,7 @@ abbrev pub listed : Outcome (List Bool) → List ℕ → Listing
 listed (refused k) out = listing (refused k) out
 listed (result vs) out = listing (result (length vs)) (slots vs)
 
--- "1, 2, then 9", 10, 12, 10, 3 and 13: 2 where there are not as many slots
+-- 1, then 2 where there are not `slotCount` slots, then 9, 10, 12, 10, 3 and 13
 unfoldable pub farmFileCall : List ℕ → List ℕ → Listing
 unfolding checked
 farmFileCall b out =

@@ -41,7 +41,7 @@ pub record ViewOf (view : List ℤ) (Ps : List WholePlane) : Type 0 where
   pub lent : WholeView view count
   pub planes : SamePlanes (planesOf view count) Ps
 
--- a box from low to high, both on the grid: "six i32 (least and greatest corner of the placed box)"
+-- six numbers of a box from low to high, both on the grid
 pub record BoundsOf (box : List ℤ) (low high : ℕ → ℤ) : Type 0 where
   pub numbers : length box ≡ rangeLength
   pub least : (j : ℕ) → j < 3 → lowCorner box j ≡ low j

@@ -54,7 +54,7 @@ pub record Answered (o : Outcome Bool) : Type 0 where
   pub verdict : Bool
   pub is : o ≡ result verdict
 
--- "Order: as gf_intersects_bbox (1, 12, 1, 3, 13), then 7 where a plane of the volume is no segment plane or the box no grid box", and only there
+-- 7 is answered where the box verdict is not refused and the records are not those of the farm grid, and only there
 abbrev pub SevenOffGrid : Type 0
 SevenOffGrid =
     (v b : List Float) (answer : Outcome Bool) → ExactBoxCall v b answer → (answer ≡ refused 7) ↔ (Answered (intersectsBoxCall v b) × ¬ GridRecords v b)

@@ -21,7 +21,7 @@ use Rattle.farmgrid.specs.Records.{PointRecord, ViewRecord, Settled}
 
 -- ---- records of whole numbers
 
--- a grid point: "the ends have three numbers each"
+-- a grid point, as either end of a segment is
 pub record WholePoint (p : List ℤ) : Type 0 where
   pub numbers : length p ≡ pointLength
   pub grid : GridPoint (pointOf p)

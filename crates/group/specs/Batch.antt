@@ -15,7 +15,7 @@ use Rattle.verdict.specs.FrustumCalls.{intersectsBoxCall}
 use Rattle.verdict.specs.declared.plane.Plane.{Plane}
 use Rattle.group.specs.Group.{boxCount, recordsOf, isWhole, allFlagged}
 
--- "a slot for each box: 1 yes, 0 no"
+-- a verdict as the number in its slot
 abbrev pub slotOf : Bool → ℕ
 slotOf v = cond v 1 0
 
@@ -23,12 +23,12 @@ slotOf v = cond v 1 0
 abbrev pub slotsBy : List Plane → List (List Float) → List ℕ
 slotsBy ps ss = map (λ s. slotOf (boxInView ps (boxOf s))) ss
 
--- "boxes (23 each, one or more)"
+-- a slice of whole records, and of one at least
 abbrev pub areBoxes : List Float → Bool
 areBoxes s = ltb 0 (length s) && isWhole s
 
--- What comes of a volume and boxes, by the checks in their order: "1 (a volume below 49 numbers, no box, or numbers that are not whole boxes), 12, 1 (another
--- volume length), 2, 3 (any flag), 13 (any number)"; there is room where there are just as many slots as boxes.
+-- What comes of a volume and boxes, by the checks in their order: 1 for the boxes' length, the volume's own (1, 12 and 1), 2 for the slots, then 3 where a flag
+-- of any box is none, and 13 where any number is not finite. There is room where there are just as many slots as boxes.
 unfoldable pub boxesInView : List Float → List Float → Bool → Outcome (List ℕ)
 boxesInView v s room =
     unless (areBoxes s) (refused 1)

@@ -25,7 +25,7 @@ RaysAreEachCall =
     (s p0 p1 p2 out : List Float) (slots : List ℕ) → raysCall s p0 p1 p2 out slots .status ≡ 0
     → raysCall s p0 p1 p2 out slots ≡ left 0 (joined (eachCall s p0 p1 p2)) (map (λ c. c .status) (eachCall s p0 p1 p2))
 
--- "0 a hit, 5 a miss", and nothing else
+-- A slot is 0, a hit's, or 5, a miss's.
 abbrev pub SlotsTellHitOrMiss : Type 0
 SlotsTellHitOrMiss =
     (s p0 p1 p2 out : List Float) (slots : List ℕ) → raysCall s p0 p1 p2 out slots .status ≡ 0

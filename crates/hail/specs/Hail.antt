@@ -26,13 +26,13 @@ rayCount s = length s / rayLength
 abbrev pub raysOf : List Float → List (List Float)
 raysOf s = rays (rayCount s) s
 
--- "rays (6 each, one or more)"
+-- a slice of whole records, and of one at least
 abbrev pub areRays : List Float → Bool
 areRays s = ltb 0 (length s) && eqb (length s % rayLength) 0
 
 -- ---- what comes of a ray
 
--- "the five numbers of a miss are +0"
+-- what a miss has in the place of a hit's numbers
 abbrev pub noHit : List Float
 noHit = replicate hitLength positiveZero
 
@@ -40,20 +40,20 @@ noHit = replicate hitLength positiveZero
 abbrev pub landed : TriangleHit → Reply Float
 landed h = replied (triangleHitNumbers h) noHit
 
--- "5 for each ray", one behind another
+-- the numbers of all rays, one behind another
 abbrev pub numbersOf : List TriangleHit → List Float
 numbersOf [] = []
 numbersOf (h ∷ hs) = landed h .out ++ numbersOf hs
 
--- "a slot for each ray: 0 a hit, 5 a miss"
+-- and their slots
 abbrev pub slotsOf : List TriangleHit → List ℕ
 slotsOf hs = map (λ h. landed h .status) hs
 
--- where each ray meets the triangle of three points
+-- each ray's hit on the triangle a, b, c, or its miss
 abbrev pub hitsOf : List (List Float) → Vec3d → Vec3d → Vec3d → List TriangleHit
 hitsOf ss a b c = map (λ r. triangleHit (rayOf r) a b c) ss
 
--- ---- what the operation answers and leaves: "Order: 1, 2", and a refusal preserves both slices
+-- ---- what the operation answers and leaves: 1 for what it reads, then 2 for what it writes, and a refusal preserves both slices
 
 pub record Left : Type 0 where
   pub status : ℕ

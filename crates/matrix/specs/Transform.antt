@@ -14,7 +14,7 @@ use Rattle.matrix.specs.Matrix.{entry}
 abbrev pub column : Mat4d → ℕ → Vec3d
 column m j = vec3 (λ i. entry m i j)
 
--- "treats the vector as a direction vector": the translation has no part in it
+-- the translation has no part in it
 abbrev pub direction : Mat4d → Vec3d → Vec3d
 direction m v = vec3 (λ j. dot v (column m j))
 
@@ -22,7 +22,7 @@ direction m v = vec3 (λ j. dot v (column m j))
 abbrev pub moved : Mat4d → Vec3d → ℕ → Float
 moved m p j = dot p (column m j) ⊕ entry m 3 j
 
--- "the fourth column is ignored"
+-- the last column has no part in it
 abbrev pub affine : Mat4d → Vec3d → Vec3d
 affine m p = vec3 (moved m p)
 

@@ -43,7 +43,7 @@ lowerOf x y = cond (lt y x) y x
 abbrev pub upperOf : Float → Float → Float
 upperOf x y = cond (lt x y) y x
 
--- x < y, or x is -0 and y is +0: "For this operation, -0 compares less than +0"
+-- x < y, or x is -0 and y is +0, which `lt` does not tell apart
 unfoldable pub precedes : Float → Float → Bool
 precedes x y = lt x y || (negative x && not (negative y) && eq x y)
 

@@ -25,6 +25,6 @@ pub record OrderFree (f : Float → Float → Float) : Type 0 where
   pub commutative : (x y : Float) → Value x → Value y → f x y ≡ f y x
   pub associative : (x y z : Float) → Value x → Value y → Value z → f (f x y) z ≡ f x (f y z)
 
--- A sum is -0 just where both its numbers are: "the sum of two zeros of different signs is +0", and so is that of a number and its negation.
+-- A sum is -0 just where both its numbers are: two zeros of different signs have the sum +0, and so have a number and its negation.
 abbrev pub NegativeZeroSum : Type 0
 NegativeZeroSum = (x y : Float) → Value x → Value y → (x ⊕ y ≡ zeroOf true) ↔ ((x ≡ zeroOf true) × (y ≡ zeroOf true))

@@ -49,12 +49,12 @@ onGrid v b = areWholeNumbers (viewNumbers v) && every planeWithin (planesIn v) &
 abbrev pub Decides : Outcome Bool → Type 0 → Type 0
 Decides answer A = ((answer ≡ result true) × A) ⊎ ((answer ≡ result false) × ¬ A)
 
--- "7 where a plane of the volume is no segment plane or the box no grid box", and then whether placed box and view share an exact point
+-- 7 off the farm grid, and on it whether placed box and view share an exact point
 abbrev pub ByGrid : List Float → List Float → Outcome Bool → Bool → Type 0
 ByGrid v b answer false = answer ≡ refused 7
 ByGrid v b answer true = Decides answer (BoxInView (planesIn v) (placedLeast (boxIn b)) (placedGreatest (boxIn b)))
 
--- "Order: as gf_intersects_bbox", whose refusals come first, whatever its verdict is
+-- the refusals of the box verdict come first, whatever its answer is
 abbrev pub After : List Float → List Float → Outcome Bool → Outcome Bool → Type 0
 After v b answer (refused k) = answer ≡ refused k
 After v b answer (result filed) = ByGrid v b answer (onGrid v b)

@@ -47,7 +47,7 @@ pub record Told (b text : List ℕ) : Type 0 where
   pub allowed : Reasons b (boxSections b) reasons
   pub lines : text ≡ linesFrom 1 reasons
 
--- "A refused file prints what `farm_file` prints."
+-- of a refused file the line that `farm_file` prints of it
 abbrev pub ToldBy : List ℕ → Outcome (List Bool) → List ℕ → Type 0
 ToldBy b (refused k) text = text ≡ refusedLine k
 ToldBy b (result vs) text = Told b text

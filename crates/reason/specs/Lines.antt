@@ -22,13 +22,13 @@ verdictWord v = cond v (32 ∷ 121 ∷ 101 ∷ 115 ∷ []) (32 ∷ 110 ∷ 111 �
 abbrev pub emptyWord : List ℕ
 emptyWord = 32 ∷ 101 ∷ 109 ∷ 112 ∷ 116 ∷ 121 ∷ []
 
--- places, "each with a space in front"
+-- places, a space before each
 unfoldable pub placeWords : List ℕ → List ℕ
 unfolding decimal
 placeWords [] = []
 placeWords (i ∷ is) = 32 ∷ decimal i ++ placeWords is
 
--- behind a `no`: "the places of the planes that the box is wholly behind, rising, or the word `empty` where its range is empty"
+-- what stands behind a `no`: the places, or one word for all of them where the range is empty
 abbrev pub behindWords : Bool → Bool → List ℕ → List ℕ
 behindWords v empty behind = cond v [] (cond empty emptyWord (placeWords behind))
 
@@ -39,7 +39,7 @@ exactYes = 32 ∷ 101 ∷ 120 ∷ 97 ∷ 99 ∷ 116 ∷ 45 ∷ 121 ∷ 101 ∷ 1
 abbrev pub exactNo : List ℕ
 exactNo = 32 ∷ 101 ∷ 120 ∷ 97 ∷ 99 ∷ 116 ∷ 45 ∷ 110 ∷ 111 ∷ []
 
--- "Where `gf_exact_bbox` answers for the box [..] and its verdict is another than the line's, the line ends with a space and `exact-yes` or `exact-no`"
+-- the exact verdict's word, where there is such a verdict and it is not the line's own
 abbrev pub exactWord : Bool → Outcome Bool → List ℕ
 exactWord v (refused k) = []
 exactWord v (result e) = cond v (cond e [] exactNo) (cond e exactYes [])
@@ -49,7 +49,7 @@ unfoldable pub line : ℕ → Reason → List ℕ
 unfolding decimal placeWords
 line k r = decimal k ++ verdictWord (r .verdict) ++ behindWords (r .verdict) (r .empty) (r .behind) ++ exactWord (r .verdict) (r .exact) ++ (10 ∷ [])
 
--- "a line for each box in section order", from section k on
+-- the lines of several boxes, from section k on
 unfoldable pub linesFrom : ℕ → List Reason → List ℕ
 unfolding line
 linesFrom k [] = []
