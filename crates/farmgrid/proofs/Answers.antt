@@ -13,10 +13,10 @@ use Rattle.number.specs.Answer.{result, write, leaving}
 use Rattle.number.specs.Every.{every}
 use Rattle.number.specs.Slice.{at, allFinite}
 use Rattle.matrix.specs.Vec.{vec3Of, coordinates}
-use Rattle.matrix.specs.Matrix.{matrixOf}
+use Rattle.matrix.specs.Matrix.{matrixOf, entries, product}
 use Rattle.matrix.specs.Range.{bounds}
 use Rattle.matrix.specs.Transform.{transformed}
-use Rattle.matrix.specs.MatrixCalls.{transformCall}
+use Rattle.matrix.specs.MatrixCalls.{productCall, transformCall}
 use Rattle.verdict.specs.BBox.{boxOf, numbers, transformedBox, alignedRange}
 use Rattle.verdict.specs.BBoxCalls.{flagged, transformBoxCall, alignedRangeCall}
 use Rattle.verdict.specs.declared.plane.Plane.{Plane}
@@ -63,6 +63,11 @@ pub point-moves : (m p out : List Float) → length m ≡ 16 → length p ≡ 3 
     → transformCall m p out ≡ write (coordinates (transformed (matrixOf m) (vec3Of p)))
 unfolding transformCall leaving
 point-moves m p out h i j = rw (eq-eqb _ _ h, eq-eqb _ _ i, eq-eqb _ _ j)
+
+pub product-writes : (a b out : List Float) → length a ≡ matrixLength → length b ≡ matrixLength → length out ≡ matrixLength
+    → productCall a b out ≡ write (entries (product (matrixOf a) (matrixOf b)))
+unfolding productCall leaving
+product-writes a b out h i j = rw (eq-eqb _ _ h, eq-eqb _ _ i, eq-eqb _ _ j)
 
 pub box-moves : (b m out : List Float) → length b ≡ boxLength → length m ≡ 16 → length out ≡ boxLength → flagged b ≡ true
     → transformBoxCall b m out ≡ write (numbers (transformedBox (boxOf b) (matrixOf m)))

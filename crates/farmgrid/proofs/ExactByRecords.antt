@@ -34,11 +34,12 @@ use Rattle.placed.specs.BBoxCall.{viewNumbers, planesIn, boxNumbers, boxIn, onG
 use Rattle.placed.proofs.Counted.{counted, counted-in}
 use Rattle.farmgrid.specs.FarmGrid.{SegmentPlane, AxisPlane, ArePlanes, none, more, lowOf, highOf}
 use Rattle.farmgrid.specs.Records.{ViewRecord, BoxRecord, Settled}
-use Rattle.farmgrid.specs.ExactByRecords.{ByRecords, OneBlock, FiledAgreesByRecords, GridRecords, Answered, SevenOffGrid}
+use Rattle.farmgrid.specs.ExactByRecords.{ByRecords, OneBlock, TurnedByRecords, FiledAgreesByRecords, GridRecords, Answered, SevenOffGrid}
 use Rattle.farmgrid.proofs.FiniteNumbers.{box-record-finite, view-finite}
 use Rattle.farmgrid.proofs.Answers.{box-answer}
 use Rattle.farmgrid.proofs.Verdicts.{box-exact}
 use Rattle.farmgrid.proofs.ExactBoxes.{same-view, same-answer}
+use Rattle.farmgrid.proofs.ExactTurned.{seen-alike}
 use Rattle.farmgrid.proofs.GridRecords.{planes-alike, least-is, greatest-is, both-pass, box-record, view-record}
 
 -- ---- boxes that are placed alike hold the same points
@@ -83,6 +84,10 @@ one-block v b b' Ps B B' answer answer' R C C' P h h' =
       λ q. record { point = q .point; held = held-alike (λ j m. sym (P .least j m)) (λ j m. sym (P .greatest j m)) (q .held); seen = q .seen },
     )
     (settled R C answer h) (settled R C' answer' h')
+
+pub turned-by-records : TurnedByRecords
+turned-by-records f v v' b b' Ps B answer answer' F W C h h' =
+    same-answer (seen-alike F B (C .before .box .grid .placement) Ps) (settled (W .after) (C .after) answer' h') (settled (W .before) (C .before) answer h)
 
 -- axis planes are segment planes
 segment-view : {v : List Float} {Ps : List WholePlane} → ViewRecord AxisPlane v Ps → ViewRecord SegmentPlane v Ps

@@ -170,8 +170,11 @@ module _ {b c : ℕ} {f : ℕ → ℕ → ℤ} (F : PlacementWithin b f) (B : Wh
         seen = views X .0 (every-map (λ P. same-point P Y (moved f X) e refl) (map (movedPlane f) Ps) (v .seen));
       }
 
+  pub seen-alike : BoxInView (map (movedPlane f) Ps) (lowOf (movedBox f B)) (highOf (movedBox f B)) ↔ BoxInView Ps (lowOf B) (highOf B)
+  seen-alike = (back, there)
+
 pub exact-turned : ExactTurned
 exact-turned f view view' box box' w w' Ps B answer answer' left left' F G D D' C C' r r' h h' =
-    same-answer (back F B (G .placement) Ps, there F B (G .placement) Ps)
+    same-answer (seen-alike F B (G .placement) Ps)
     (box-verdict-exact view' box' w' (map (movedPlane f) Ps) (lowOf (movedBox f B)) (highOf (movedBox f B)) answer' left' D' C' r' h' .settled)
     (box-verdict-exact view box w Ps (lowOf B) (highOf B) answer left D C r h .settled)

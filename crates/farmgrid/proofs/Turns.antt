@@ -1,33 +1,43 @@
 -- A turn changes no verdict on the farm grid: the point operation and the product move floats as the exact turn moves whole numbers, and the exact
--- verdicts are kept by it.
+-- verdicts are kept by it, whatever records they are asked of.
 use mathlib.Core.Path.{_≡_, refl, sym, ap, _∙_, subst}
 use mathlib.Core.Bool.{Bool}
-use mathlib.Core.List.{List}
-use Prim.Native.Nat.{ℕ}
+use mathlib.Core.List.{List, [], _∷_}
+use Prim.Native.Nat.{ℕ, zero, suc, _≤_}
+use native.Mathlib.Omega.{arith}
 use lib.Dec.{T, lit≤}
-use lib.ListN.{length}
+use lib.ListN.{length, take, drop, length-drop}
+use lib.Seq.{getD-drop}
 use lib.IntN.{ℤ}
-use lib.Ieee.{Float}
+use lib.Ieee.{Float, nan}
 use lib.Ieee.Bits.{is-true}
-use Rattle.number.specs.Limits.{boxLength}
+use Rattle.number.specs.Limits.{pointLength, rangeLength, matrixLength, boxLength}
 use Rattle.number.specs.Answer.{Reply, Outcome, result, write}
+use Rattle.number.specs.Slice.{at}
 use Rattle.matrix.specs.declared.vec.Vec3d.{Vec3d}
 use Rattle.matrix.specs.declared.matrix.Mat4d.{Mat4d}
-use Rattle.matrix.specs.Matrix.{matrixOf}
+use Rattle.matrix.specs.Vec.{vec3Of}
+use Rattle.matrix.specs.Matrix.{matrixOf, entries, product}
+use Rattle.matrix.specs.Range.{bounds}
 use Rattle.matrix.specs.Transform.{transformed}
-use Rattle.matrix.specs.MatrixCalls.{transformCall as pointMoved}
+use Rattle.matrix.specs.MatrixCalls.{productCall, transformCall as pointMoved}
 use Rattle.verdict.specs.declared.bbox.BBox3d.{BBox3d}
-use Rattle.verdict.specs.BBox.{boxOf, numbers, transformedBox}
+use Rattle.verdict.specs.BBox.{boxOf, isFlag, flagOf, transformedBox}
 use Rattle.verdict.specs.BBoxCalls.{flagged, transformBoxCall as boxMoved}
+use Rattle.verdict.specs.declared.plane.Plane.{Plane}
+use Rattle.verdict.specs.View.{tabulate, planesOf}
+use Rattle.verdict.specs.Frustum.{pointInView, segmentInView, boxInView}
+use Rattle.verdict.specs.FrustumCalls.{intersectsPointCall, intersectsSegmentCall, intersectsBoxCall}
+use Rattle.whole.specs.Plane.{WholePlane}
 use Rattle.placed.specs.Placement.{movedℤ, WholeBox}
 use Rattle.farmgrid.specs.Placement.{Placed, GridPoint}
 use Rattle.farmgrid.specs.FarmGrid.{GridBox, IsPoint, IsBox, movedBox}
-use Rattle.farmgrid.specs.Records.{PointRecord, BoxRecord, TurnRecord, Accepted}
-use Rattle.farmgrid.specs.Turns.{TurnedPoint, TurnedBox, TurnKeepsVerdicts}
+use Rattle.farmgrid.specs.Records.{PointRecord, ViewRecord, BoxRecord, TurnRecord, Accepted}
+use Rattle.farmgrid.specs.Turns.{TurnedPoint, TurnedBox, rangeIn, placementIn, boxFrom, TurnKeepsVerdicts}
 use Rattle.farmgrid.proofs.QuarterTurns.{widen, widen-placement}
 use Rattle.farmgrid.proofs.WholePlacements.{point-whole, product-whole}
 use Rattle.farmgrid.proofs.FiniteNumbers.{point-finite, box-record-finite, view-finite}
-use Rattle.farmgrid.proofs.Answers.{point-answer, segment-answer, box-answer, point-moves, box-moves}
+use Rattle.farmgrid.proofs.Answers.{point-answer, segment-answer, box-answer, point-moves, product-writes, box-moves}
 use Rattle.group.proofs.Written.{flag-read}
 use Rattle.farmgrid.proofs.Turned.{point-turned, segment-turned}
 use Rattle.farmgrid.proofs.BoxTurned.{box-turned}
@@ -52,13 +62,27 @@ module _ {m : Mat4d} {f : ℕ → ℕ → ℤ} (M : Placed m f) where
 
 -- ---- records
 
--- a box is read back as it was written
-written : (b : BBox3d) {B : WholeBox} → IsBox b B → BoxRecord (numbers b) B
-written b h = record {
-  numbers = refl;
-  flag = subst T (sym (flag-read (b .flag))) tt;
-  box = record { range = h .range; matrix = h .matrix; grid = h .grid };
-}
+-- the numbers in front of a slice, one by one
+in-front : (n : ℕ) (s : List Float) → n ≤ length s → take n s ≡ tabulate (at s) n
+unfolding tabulate
+in-front zero s h = refl
+in-front (suc n) [] h = absurd (omega (arith, h))
+in-front (suc n) (x ∷ s) h = ap (λ (r : List Float). x ∷ r) (in-front n s (omega (arith, h)))
+
+module _ (b : List Float) (n : length b ≡ boxLength) where
+  range-in : rangeIn b ≡ bounds (boxOf b .range)
+  unfolding tabulate
+  range-in = in-front rangeLength b (omega (arith, n))
+
+  placement-in : placementIn b ≡ entries (boxOf b .matrix)
+  unfolding tabulate
+  placement-in =
+      in-front matrixLength (drop rangeLength b) (omega (arith, n, length-drop rangeLength b))
+      ∙ (λ t. tabulate (λ i. getD-drop rangeLength b i nan t) matrixLength)
+
+-- a box is read back as it was written, with whatever flag
+written : (b : BBox3d) {B : WholeBox} (flag : Float) → T (isFlag flag) → IsBox b B → BoxRecord (boxFrom (bounds (b .range)) (entries (b .matrix)) flag) B
+written b flag f h = record { numbers = refl; flag = f; box = record { range = h .range; matrix = h .matrix; grid = h .grid } }
 
 -- a call that writes was not refused
 accepted : {r : Reply Float} {v : List Float} {Kind : List Float → Type 0} → r ≡ write v → Kind v → Accepted r Kind
@@ -69,39 +93,64 @@ same : {o o' : Outcome Bool} {v v' : Bool} → o' ≡ result v' → o ≡ result
 same e e' h = e ∙ ap result h ∙ sym e'
 
 module _ {m : List Float} {f : ℕ → ℕ → ℤ} (M : TurnRecord m f) where
-  moves : {p : List Float} {A : ℕ → ℤ} → TurnedPoint f p A → (out : List Float) → length out ≡ 3
-      → Accepted (pointMoved m p out) (λ p'. PointRecord p' (movedℤ f A))
-  moves {p} P out room =
-      accepted (point-moves m p out (M .numbers) (P .before .numbers) room)
-      (record { numbers = refl; point = point-moved (M .turn) (P .before .point) (P .after) })
+  moves : {p : List Float} {A : ℕ → ℤ} → PointRecord p A → GridPoint (movedℤ f A) → (out : List Float) → length out ≡ pointLength
+      → Accepted (pointMoved m p out) (λ p'. TurnedPoint f p p' A)
+  moves {p} P g out room =
+      accepted (point-moves m p out (M .numbers) (P .numbers) room)
+      (record { before = P; after = record { numbers = refl; point = point-moved (M .turn) (P .point) g } })
 
-  places : {b : List Float} {B : WholeBox} → TurnedBox f b B → (out : List Float) → length out ≡ boxLength
-      → Accepted (boxMoved b m out) (λ b'. BoxRecord b' (movedBox f B))
-  places {b} P out room =
-      accepted (box-moves b m out (P .before .numbers) (M .numbers) room (is-true (flagged b) (P .before .flag)))
-      (written (transformedBox (boxOf b) (matrixOf m)) (box-moved (M .turn) (P .before .box) (P .after)))
+  module _ {b : List Float} {B : WholeBox} (R : BoxRecord b B) (g : GridBox (movedBox f B)) where
+    -- the product, between the range and a flag
+    abbrev turned : List Float → Float → List Float
+    turned range flag = boxFrom range (entries (product (boxOf b .matrix) (matrixOf m))) flag
+
+    moved : (flag : Float) → T (isFlag flag) → BoxRecord (turned (bounds (boxOf b .range)) flag) (movedBox f B)
+    moved flag h = written (transformedBox (boxOf b) (matrixOf m)) flag h (box-moved (M .turn) (R .box) g)
+
+    takes : (out : List Float) → length out ≡ matrixLength → (flag : Float) → T (isFlag flag)
+        → Accepted (productCall (placementIn b) m out) (λ p. TurnedBox f b (boxFrom (rangeIn b) p flag) B)
+    takes out room flag h =
+        accepted
+        (ap (λ (s : List Float). productCall s m out) (placement-in b (R .numbers))
+        ∙ product-writes (entries (boxOf b .matrix)) m out refl (M .numbers) room)
+        (record {
+          before = R;
+          after = subst (λ (r : List Float). BoxRecord (turned r flag) (movedBox f B)) (sym (range-in b (R .numbers))) (moved flag h);
+        })
+
+    places : (out : List Float) → length out ≡ boxLength → Accepted (boxMoved b m out) (λ b'. TurnedBox f b b' B)
+    places out room =
+        accepted (box-moves b m out (R .numbers) (M .numbers) room (is-true (flagged b) (R .flag)))
+        (record { before = R; after = moved (flagOf (boxOf b .flag)) (subst T (sym (flag-read (boxOf b .flag))) tt) })
+
+-- what the verdicts answer on records
+module _ {Kind : WholePlane → Type 0} {v : List Float} {Ps : List WholePlane} (W : ViewRecord Kind v Ps) where
+  abbrev planes : List Plane
+  planes = planesOf v (W .count)
+
+  of-point : {p : List Float} {A : ℕ → ℤ} → PointRecord p A → intersectsPointCall v p ≡ result (pointInView planes (vec3Of p))
+  of-point {p} P = point-answer v (W .volume) (view-finite W) p (P .numbers) (point-finite P)
+
+  of-segment : {p q : List Float} {A B : ℕ → ℤ} → PointRecord p A → PointRecord q B
+      → intersectsSegmentCall v p q ≡ result (segmentInView planes (vec3Of p) (vec3Of q))
+  of-segment {p} {q} P Q = segment-answer v (W .volume) (view-finite W) p q (P .numbers) (Q .numbers) (point-finite P) (point-finite Q)
+
+  of-box : {b : List Float} {B : WholeBox} → BoxRecord b B → intersectsBoxCall v b ≡ result (boxInView planes (boxOf b))
+  of-box {b} C = box-answer v (W .volume) (view-finite W) b (C .numbers) (is-true (flagged b) (C .flag)) (box-record-finite C)
 
 pub turn-keeps : TurnKeepsVerdicts
-turn-keeps m f M = record {
-  moves = moves M;
-  places = places M;
-  point = λ {v} {v'} {p} W P out room.
-      let P' = moves M P out room .left in
-      same (point-answer v' (W .after .volume) (view-finite (W .after)) (pointMoved m p out .out) (P' .numbers) (point-finite P'))
-      (point-answer v (W .before .volume) (view-finite (W .before)) p (P .before .numbers) (point-finite (P .before)))
-      (point-turned (M .turn .placement .turn) (W .before .planes) (W .after .planes) (P .before .point) (P' .point));
-  segment = λ {v} {v'} {p0 = p} {p1 = q} W P Q out out' room room'.
-      let P' = moves M P out room .left in
-      let Q' = moves M Q out' room' .left in
-      same
-      (segment-answer v' (W .after .volume) (view-finite (W .after)) (pointMoved m p out .out) (pointMoved m q out' .out) (P' .numbers) (Q' .numbers)
-      (point-finite P') (point-finite Q'))
-      (segment-answer v (W .before .volume) (view-finite (W .before)) p q (P .before .numbers) (Q .before .numbers) (point-finite (P .before)) (point-finite (Q .before)))
-      (segment-turned (M .turn .placement .turn) (W .before .planes) (W .after .planes) (P .before .point) (P' .point) (Q .before .point) (Q' .point));
-  box = λ {v} {v'} {b} W B out room.
-      let B' = places M B out room .left in
-      same
-      (box-answer v' (W .after .volume) (view-finite (W .after)) (boxMoved b m out .out) (B' .numbers) (is-true (flagged (boxMoved b m out .out)) (B' .flag)) (box-record-finite B'))
-      (box-answer v (W .before .volume) (view-finite (W .before)) b (B .before .numbers) (is-true (flagged b) (B .before .flag)) (box-record-finite (B .before)))
-      (box-turned (M .turn .placement) (W .before .planes) (W .after .planes) (B .before .box) (B' .box));
-}
+turn-keeps m f M =
+    let F = M .turn .placement in record {
+      moves = moves M;
+      takes = takes M;
+      places = places M;
+      point = λ W P.
+          same (of-point (W .after) (P .after)) (of-point (W .before) (P .before))
+          (point-turned (F .turn) (W .before .planes) (W .after .planes) (P .before .point) (P .after .point));
+      segment = λ W P Q.
+          same (of-segment (W .after) (P .after) (Q .after)) (of-segment (W .before) (P .before) (Q .before))
+          (segment-turned (F .turn) (W .before .planes) (W .after .planes) (P .before .point) (P .after .point) (Q .before .point) (Q .after .point));
+      box = λ W C.
+          same (of-box (W .after) (C .after)) (of-box (W .before) (C .before))
+          (box-turned F (W .before .planes) (W .after .planes) (C .before .box) (C .after .box));
+    }

@@ -6,6 +6,7 @@ use mathlib.Core.Logic.{_↔_}
 use mathlib.Core.Bool.{Bool}
 use mathlib.Core.List.{List}
 use Prim.Native.Nat.{ℕ, _<_}
+use lib.IntN.{ℤ}
 use lib.Ieee.{Float}
 use Rattle.number.specs.Answer.{Outcome, refused, result}
 use Rattle.whole.specs.Plane.{WholePlane}
@@ -13,8 +14,10 @@ use Rattle.exact.specs.ExactPoint.{BoxInView}
 use Rattle.verdict.specs.FrustumCalls.{intersectsBoxCall}
 use Rattle.placed.specs.Placement.{WholeBox}
 use Rattle.placed.specs.BBoxCall.{ExactBoxCall}
+use Rattle.farmgrid.specs.Placement.{Placement}
 use Rattle.farmgrid.specs.FarmGrid.{SegmentPlane, AxisPlane, lowOf, highOf, Share}
 use Rattle.farmgrid.specs.Records.{ViewRecord, BoxRecord, Settled}
+use Rattle.farmgrid.specs.Turns.{TurnedView, TurnedBox}
 
 -- ---- on the grid
 
@@ -33,6 +36,12 @@ abbrev pub OneBlock : Type 0
 OneBlock =
     (v b b' : List Float) (Ps : List WholePlane) (B B' : WholeBox) (answer answer' : Outcome Bool)
     → ViewRecord SegmentPlane v Ps → BoxRecord b B → BoxRecord b' B' → OnePlace B B' → ExactBoxCall v b answer → ExactBoxCall v b' answer' → answer ≡ answer'
+
+-- A turn of planes and box alike changes no answer, whatever records of them are asked.
+abbrev pub TurnedByRecords : Type 0
+TurnedByRecords =
+    (f : ℕ → ℕ → ℤ) (v v' b b' : List Float) (Ps : List WholePlane) (B : WholeBox) (answer answer' : Outcome Bool)
+    → Placement f → TurnedView SegmentPlane f v v' Ps → TurnedBox f b b' B → ExactBoxCall v b answer → ExactBoxCall v' b' answer' → answer' ≡ answer
 
 -- For axis planes that share a point the filed verdict and this one agree.
 abbrev pub FiledAgreesByRecords : Type 0
