@@ -39,6 +39,7 @@ numberOf InView = 14
 -- ---- an operation that writes its result into a lent slice
 
 -- What such a call leaves: 0 or the number of its refusal, and what the slice holds afterwards.
+-- Its numbers are values: where the result has a NaN, the slice may hold any NaN.
 pub record Reply (A : Type 0) : Type 0 where
   pub status : ℕ
   pub out : List A
@@ -46,7 +47,8 @@ pub record Reply (A : Type 0) : Type 0 where
 abbrev pub answered : {A : Type 0} → ℕ → List A → Reply A
 answered n out = record { status = n; out = out }
 
--- a refusal preserves the slice
+-- A refusal preserves the slice: as values it is equal to what it was, so that a NaN is still a NaN. That the bits of a NaN stay too is what the code does,
+-- since no refusal stores.
 abbrev pub refuse : {A : Type 0} → ℕ → List A → Reply A
 refuse n out = answered n out
 
@@ -100,7 +102,7 @@ pub record Lone (A : Type 0) : Type 0 where
 abbrev pub lone : {A : Type 0} → ℕ → A → Lone A
 lone n x = record { status = n; value = x }
 
--- a refusal preserves what was there
+-- a refusal preserves what was there, in the same sense
 abbrev pub put : {A : Type 0} → Outcome A → A → Lone A
 put (refused n) before = lone n before
 put (result x) before = lone 0 x

@@ -1,5 +1,7 @@
 -- binary64 arithmetic as the contracts write it: ⊕, ⊖, ⊗ and ⊘ are the four operations of IEEE 754, clause 5.4.1, each rounded once to nearest, ties to even.
 -- Definitions only.
+-- A zero has its sign, and each definition says which. A NaN is one value, without sign or payload (the kit's lib.Ieee): its bits are free, and where a
+-- definition gives a NaN, the result may be any NaN.
 use mathlib.Core.Bool.{Bool, false, not, cond, _&&_, _||_}
 use lib.IntN.{pos}
 use lib.Ieee.{Float, nan, inf, fin, binary64, add, sub, mul, div, lt, eq, isNan}

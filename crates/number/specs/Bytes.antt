@@ -16,7 +16,7 @@ unfoldable pub wordAt : ℕ → List ℕ → ℕ → ℕ
 unfolding littleEndian
 wordAt n b i = cond (leb (i + n) (length b)) (littleEndian (take n (drop i b))) 0
 
--- the number of binary64 whose pattern stands in 8 bytes from place i on
+-- the number of binary64 whose pattern stands in 8 bytes from place i on: some NaN, where it is a NaN's
 abbrev pub numberAt : List ℕ → ℕ → Float
 numberAt b i = ofBits binary64 (wordAt 8 b i)
 

@@ -1,5 +1,7 @@
 -- convertFormat of IEEE 754, clause 5.4.2, between binary64 and binary32, rounded to nearest, ties to even. Definitions only.
--- One type of values serves both formats, so a number that is widened stays the same.
+-- One type of values serves both formats, so a number that is widened stays the same, and a NaN stays some NaN.
+-- Patterns are read and written by the kit's `ofBits` and `toBits`. Every pattern of a NaN gives some NaN; the pattern that is written for a NaN is not free,
+-- its sign clear and of its fraction the highest digit set alone.
 use Prim.Native.Nat.{_*_}
 use lib.Ieee.{Float, nan, inf, fin, binary32, round, up, down}
 

@@ -1,4 +1,5 @@
 -- Lent slices as lists of numbers. Definitions only.
+-- The numbers are values: a NaN that is read, stored or copied is some NaN there.
 use Prim.Native.Nat.{ℕ, _+_}
 use mathlib.Core.Bool.{Bool, true, cond, _&&_}
 use mathlib.Core.List.{List, [], _∷_, _++_}
