@@ -32,7 +32,7 @@ unfoldable pub combinedWith : BBox3d → List (List Float) → BBox3d
 combinedWith b [] = b
 combinedWith b (s ∷ ss) = combinedWith (combined b (boxOf s)) ss
 
--- The record of the group's box. "A single box comes back as it is." A group has at least one.
+-- The record of the group's box. "A single box comes back as it is": equal as values, a flag of -0 among them. A group has at least one.
 unfoldable pub grouped : List (List Float) → List Float
 unfolding combinedWith
 grouped [] = []
