@@ -7,7 +7,7 @@
 //!     compare bench [FUNCTION..]
 //!     compare survey [FARMS]
 //!     compare record [FILE]
-//!     compare record-farm FOLDER
+//!     compare record-farm CRATES
 //!     compare lines
 //!     compare explained
 
@@ -42,7 +42,7 @@ mod words;
 use farm::FarmFiles;
 use op::Timed;
 use program::Program;
-use std::fs::File;
+use std::fs::{self, File};
 use std::io::{self, BufWriter, Read};
 use std::path::Path;
 use std::process::ExitCode;
@@ -64,7 +64,7 @@ fn main() -> ExitCode {
         ["record", path] => recorded(Some(path)),
         ["record", ..] => Err(String::from("record [FILE]")),
         ["record-farm", folder] => recorded_files(Path::new(folder)),
-        ["record-farm", ..] => Err(String::from("record-farm FOLDER")),
+        ["record-farm", ..] => Err(String::from("record-farm CRATES")),
         ["lines"] => lines(reader::lines),
         ["explained"] => lines(reader::explained),
         ["bench", ref names @ ..] => chosen(names).map(|functions| {
@@ -166,11 +166,18 @@ fn recorded(path: Option<&str>) -> Result<bool, String> {
     Ok(true)
 }
 
-/// The files and lines of the program that replays farm files.
-fn recorded_files(folder: &Path) -> Result<bool, String> {
-    let create = |name: &str| File::create(folder.join(name)).map(BufWriter::new);
+/// The files and lines of the program that replays farm files, and of the
+/// further runs of those that read one.
+fn recorded_files(crates: &Path) -> Result<bool, String> {
+    let replayed = crates.join("replay_farm");
+    let create = |name: &str| File::create(replayed.join(name)).map(BufWriter::new);
     let written = create("stdin").and_then(|mut files| record::write_files(&mut files, &mut create("stdout")?));
-    let files = written.map_err(|error| format!("{}: {error}", folder.display()))?;
+    let files = written.map_err(|error| format!("{}: {error}", replayed.display()))?;
+    for (name, file, lines) in record::runs() {
+        let folder = crates.join(name);
+        let written = fs::write(folder.join("stdin"), file).and_then(|()| fs::write(folder.join("stdout"), lines));
+        written.map_err(|error| format!("{}: {error}", folder.display()))?;
+    }
     eprintln!("{files} farm files");
     Ok(true)
 }

@@ -35,6 +35,16 @@ pub fn write_files(files: &mut dyn Write, lines: &mut dyn Write) -> io::Result<u
     Ok(notable.len())
 }
 
+/// Further runs of the programs that read one farm file: the name of each, its
+/// file, and what it is to print.
+pub fn runs() -> Vec<(String, Vec<u8>, String)> {
+    let programs: [(&str, fn(&[u8]) -> String); 2] = [("farm_file", reader::lines), ("explain", reader::explained)];
+    let files = ["largest", "refused"].into_iter().zip(inputs::largest_and_refused());
+    files
+        .flat_map(|(run, file)| programs.map(|(program, of)| (format!("{program}_{run}"), file.clone(), of(&file))))
+        .collect()
+}
+
 #[cfg(test)]
 mod tests {
     use super::*;
@@ -111,6 +121,20 @@ mod tests {
         write_files(&mut files, &mut lines).expect("memory is written to");
         assert!(files.len() < 500_000, "{} bytes", files.len());
         assert!(files == kept("crates/replay_farm/stdin") && lines == kept("crates/replay_farm/stdout"));
+    }
+
+    /// Each has the source of its program, so that it is that program which is
+    /// run, and both ends of the limit are among the files.
+    #[test]
+    fn further_runs_are_of_the_programs() {
+        for (name, file, lines) in runs() {
+            assert!(kept(&format!("crates/{name}/stdin")) == file, "{name}");
+            assert_eq!(kept(&format!("crates/{name}/stdout")), lines.as_bytes(), "{name}");
+            assert!(file.len() > 3000 && (lines == "refused 1\n") == name.ends_with("_refused"), "{name}");
+            let (program, _) = name.rsplit_once('_').expect("it has two words");
+            let source = fs::read_link(project(&format!("crates/{name}/src"))).expect("it is a link");
+            assert_eq!(source, Path::new("..").join(program).join("src"), "{name}");
+        }
     }
 
     /// The program's own file is the example orchard's, and the page about

@@ -550,6 +550,17 @@ pub fn struck_files() -> Vec<Vec<u8>> {
     all
 }
 
+/// A file of the largest size with as many boxes as it can have, of both
+/// verdicts, and the same with a byte more.
+pub fn largest_and_refused() -> [Vec<u8>; 2] {
+    let rng = &mut Rng::at(0, 7);
+    let mut file = of_both_verdicts(0, BOXES, true);
+    file.fill_to(rng, LARGEST);
+    let largest = file.bytes.clone();
+    file.fill_to(rng, LARGEST + 1);
+    [largest, file.bytes]
+}
+
 /// Files at the largest size, which are always tried and not recorded.
 pub fn large_files() -> Vec<Vec<u8>> {
     let rng = &mut Rng::at(0, 6);
