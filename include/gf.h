@@ -18,14 +18,16 @@
  * What comes back. A function that can refuse returns a status: 0, or the number of its refusal.
  *
  *   0  done: the result is in `out`
- *   1  an input slice's length differs from its record; there is no range, or more than GF_MOST_RANGES; there is no box
- *   2  the output slice's length differs from its record, or has not a slot for each range or for each box
+ *   1  an input slice's length differs from its record; there is no range, or more than GF_MOST_RANGES; there is no box, or no
+ *      ray; a farm file has more than 65536 bytes
+ *   2  the output slice's length differs from its record; there is not a slot for each range or for each box, not five numbers and
+ *      a slot for each ray, or not 63 slots for a farm file
  *   3  a kind or a flag is outside its named values; a zero of either sign counts as 0
  *   4  a matrix is singular
  *   5  a miss
  *   6  a matrix is not a projection
  *   7  a coordinate is off the grid, or a whole number is past its limit there; a plane or a box is none of the farm grid
- *   8  a number of a camera is not finite
+ *   8  a number of a camera's record is not finite
  *   9  a farm file is too short, or its directory does not say where its sections lie
  *   10 a section of a farm file is not as long as its record
  *   11 a group of boxes is empty, or has more numbers than 256 boxes
@@ -54,7 +56,8 @@
  *   matrix 16             row by row, for row vectors: a point stands to the left, the translation is the last row
  *   plane 4               normal, distance. A point is on its positive side where point times normal is at least distance
  *   ray 6                 start, direction
- *   projection 7          kind (0 perspective, 1 orthographic), left, right, bottom, top, near, far
+ *   projection 7          kind (0 perspective, 1 orthographic), left, right, bottom, top, near, far. A perspective window is not
+ *                         where glFrustum has it ("projections", below)
  *   camera 24             the matrix that carries camera space into the world, kind (as a projection), focal length, horizontal
  *                         aperture, vertical aperture, horizontal offset, vertical offset, near, far
  *   box 23                range, the matrix that places it, zero-area flag (0 or 1)
@@ -249,15 +252,26 @@ uint32_t gf_ray_intersect_triangle(const double *ray, size_t ray_len, const doub
  * In: rays 6 each, p0 3, p1 3, p2 3. Out: 5 numbers and a slot for each ray. Refuses: 1, 2. */
 uint32_t gf_rays_intersect_triangle(const double *rays, size_t rays_len, const double *p0, size_t p0_len, const double *p1, size_t p1_len, const double *p2, size_t p2_len, double *out, size_t out_len, uint32_t *status, size_t status_len);
 
-/* ---- projections */
+/* ---- projections: the eye is at the origin of camera space and looks along -z, with x to the right and y upward. Near and far
+ * are distances in front of it. Left, right, bottom and top bound a window, and what is seen through it between near and far goes to
+ * clip points that have x, y and z from -w to w; z is -w at near and w at far.
+ * An orthographic window is one for all distances, as that of glOrtho is. A perspective one is at distance 1 from the eye, whatever
+ * near is: right is how far to the right is seen for each unit in front of the eye, 1 for 45 degrees. glFrustum has its window at
+ * the near plane; for its view divide its left, right, bottom and top by near.
+ * Example: near is 2 and far 10, and at near the view goes from -1 to 1 across and from -0.5 to 0.5 upward. Lend 0, -0.5, 0.5, -0.25,
+ * 0.25, 2, 10. The matrix has the rows 2,0,0,0; 0,4,0,0; 0,0,-1.5,-1; 0,0,-5,0. The point 1,0.5,-2, a corner of the view at near,
+ * becomes 2,2,-2,2, and -5,-2.5,-10, one at far, -10,-10,10,10. The box 3,0,-5 to 4,1,-4 is to the right of the view, and by this
+ * matrix gf_intersects_view_volume gives a no. With -1, 1, -0.5, 0.5 as the window the view is twice as wide and twice as high, the
+ * box gets a yes, and a block that is not seen is rated as watched */
 
-/* The matrix of a projection. 3: the kind is neither 0, of either sign, nor 1.
+/* The matrix of a projection, from camera space into clip space. 3: the kind is neither 0, of either sign, nor 1.
  * In: params 7. Out: 16 numbers. Refuses: 1, 2, 3. */
 uint32_t gf_projection_matrix(const double *params, size_t params_len, double *out, size_t out_len);
 
-/* The projection of a matrix. The number in the third row and fourth column tells the kind: less than 1e-6 from -1, or else
- * from 0. 6: it is neither, one of the six numbers found is not finite, or the matrix that they build is not m within 1e-6,
- * entry by entry, of the larger size of the two or of 1.
+/* The projection of a matrix, with its window where gf_projection_matrix has it, of a perspective one at distance 1. The
+ * number in the third row and fourth column tells the kind: less than 1e-6 from -1, or else from 0. 6: it is neither, one of the
+ * six numbers found is not finite, or the matrix that they build is not m within 1e-6, entry by entry, of the larger size of the
+ * two or of 1.
  * In: m 16. Out: 7 numbers. Refuses: 1, 2, 6. */
 uint32_t gf_projection_from_matrix(const double *m, size_t m_len, double *out, size_t out_len);
 
@@ -267,9 +281,10 @@ uint32_t gf_projection_from_matrix(const double *m, size_t m_len, double *out, s
  * matrices fix its ratio to the apertures alone; focal length, apertures and offsets are in tenths of a world unit. The seven
  * numbers behind the kind are values of binary32: computed in double, narrowed once and widened again. 4: the view has no
  * inverse (as gf_inverse). 6: the projection is none (as gf_projection_from_matrix). 8: one of the 24 numbers is not finite,
- * because it overflows binary32, because the view's determinant is infinite, because the view's inverse overflows though the
- * determinant is finite, or because the focal length is a NaN or an infinity. A focal length of 0 or below, and near above far,
- * are accepted. With status 0 all 24 numbers are finite.
+ * because it overflows binary32, because the view's inverse holds a NaN or an infinity, or because the focal length is a NaN or
+ * infinite. An infinite determinant of the view alone does not give 8: its reciprocal is 0, and finite cofactors times 0 are zeros,
+ * so that the view diag(1e78,1e78,1e78,1e78) is accepted with a transform of zeros; diag(1e200,1e200,1e200,1), whose cofactors
+ * overflow too, gets 8. A focal length of 0 or below, and near above far, are accepted. With status 0 all 24 numbers are finite.
  * In: view 16, projection 16. Out: 24 numbers. Refuses: 1, 2, 4, 6, 8. */
 uint32_t gf_camera_set_from_view_and_projection(const double *view, size_t view_len, const double *projection, size_t projection_len, float focal_length, double *out, size_t out_len);
 
@@ -377,9 +392,11 @@ uint32_t gf_blocking_plane(const double *volume, size_t volume_len, const double
 
 /* The planes that a box is wholly behind, a bit for each place: bit i of planes is set where gf_intersects_bbox's own test finds that the
  * box does not reach plane i. An empty range reaches none, so that all bits of the volume's planes are set. 0 exactly where
- * gf_intersects_bbox gives a yes; and one bit alone exactly where it would give a yes without that plane. On the farm grid, by planes
- * along an axis, a bit is set exactly where no exact point of the placed box satisfies the plane. By other planes the test rounds: a
- * box that touches one in a single point may get its bit. All refusals are those of gf_intersects_bbox.
+ * gf_intersects_bbox gives a yes. Of a box that gets a no one bit alone is set exactly where it would get a yes without that plane. On
+ * the farm grid, by planes whose normal is a single 1 or -1, a bit is set exactly where no exact point of the placed box satisfies the
+ * plane. By all other planes the test rounds, and a box that just touches one, in a corner, an edge or a face, may get its bit: plane
+ * 49,0,0 with distance 343 and the box 6,0,0 to 7,1,1, which touch in a face, and the bit is set. All refusals are those of
+ * gf_intersects_bbox.
  * In: volume, bbox 23. Out: bits. Refuses: 1, 12, 1, 3, 13. */
 uint32_t gf_blocking_planes(const double *volume, size_t volume_len, const double *bbox, size_t bbox_len, uint32_t *planes);
 
