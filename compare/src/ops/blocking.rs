@@ -4,7 +4,7 @@
 mod slips;
 
 use super::verdict::{
-    asked_boxes, mended, mended_boxes, odd_counts, segment_seen, struck_boxes, struck_volumes, timed_box,
+    asked_boxes, mended, mended_boxes, odd_counts, segment_seen, struck_boxes, struck_volumes, timed_box, told_boxes,
 };
 use crate::call::Call;
 use crate::exported::{call, of_archive};
@@ -343,6 +343,7 @@ fn of_box() -> Call<(Volume, Boxed)> {
     })
     .fixed(fixed.collect())
     .tried(super::exact_box::parted())
+    .tried(told_boxes())
     .mended(mended_boxes())
     .missing(&struck_boxes())
     .drawn(|_, rng| inputs::volume_and_box(rng))
@@ -360,6 +361,14 @@ mod tests {
             let count = held(volume.numbers()).expect("a count");
             assert_eq!(behind(volume.numbers(), count, &boxed(&b).expect("a box")), answer, "{i}: {b:?}");
         }
+    }
+
+    /// docs/DIFFERENCES.md, "Exact geometry": the last touches its first plane in
+    /// a face, and has its bit.
+    #[test]
+    fn the_boxes_that_are_told_of() {
+        let bits = |(volume, b): (Volume, Boxed)| behind(volume.numbers(), 6, &boxed(&b).expect("a box"));
+        assert_eq!(told_boxes().into_iter().map(bits).collect::<Vec<_>>(), [0b10, 0b10_1010, 0, 1]);
     }
 
     #[test]

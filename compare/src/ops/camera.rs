@@ -32,11 +32,32 @@ fn set_from_view_and_projection() -> Box<dyn Op> {
         if numbers.iter().all(|x| x.is_finite()) { Ok(numbers) } else { Err(NOT_FINITE) }
     })
     .fixed(fixed().into_iter().map(|(_, given)| lent(given)).collect())
+    .tried(told().map(|(_, given)| lent(given)).into())
     .mended(mended().map(lent).into())
     .drawn(|_, rng| lent(inputs::camera(rng)))
     .timed("perspective", |_, rng| lent(ordinary(rng, 0.0)))
     .timed("orthographic", |_, rng| lent(ordinary(rng, 1.0)))
     .op()
+}
+
+/// What docs/DIFFERENCES.md tells of cameras, with what the Rust answers.
+fn told() -> [(bool, Given); 9] {
+    let seen = |kind: f64, left: f64, right: f64| inputs::projected(&[kind, left, right, -0.5, 0.5, 2.0, 10.0]);
+    let (perspective, parallel) = (seen(0.0, -1.0, 1.0), seen(1.0, -1.0, 1.0));
+    [
+        // An infinite determinant with finite cofactors: a transform of zeros.
+        (true, (diagonal([1e100, 1e100, 1e100, 1e10]), perspective, 50.0)),
+        (true, (diagonal([1e78; 4]), perspective, 50.0)),
+        // Set by the Rust, and with a number that is not finite.
+        (true, (diagonal([1e200, 1e200, 1e200, 1.0]), perspective, 50.0)),
+        (true, (diagonal([1e-309, 1e154, 1e154, 1.0]), perspective, 50.0)),
+        (true, (IDENTITY, parallel, f32::NAN)),
+        (true, (IDENTITY, parallel, f32::INFINITY)),
+        // Set by the C++ alone: no inverse, a skew, an aperture past the last f32.
+        (false, (diagonal([1.0, 1.0, 0.0, 1.0]), perspective, 50.0)),
+        (false, (IDENTITY, with(perspective, &[(4, 0.5)]), 50.0)),
+        (false, (IDENTITY, seen(0.0, -1e38, 1e38), 50.0)),
+    ]
 }
 
 /// No inverse, no projection and no focal length; then mended in this order.
@@ -204,6 +225,23 @@ fn down(x: f64) -> f64 {
 #[cfg(test)]
 mod tests {
     use super::*;
+
+    #[test]
+    fn cameras_that_are_told_of() {
+        for (i, (answer, (view, projection, focal_length))) in told().into_iter().enumerate() {
+            let mut camera = gf::Camera::default();
+            let set = camera.set_from_view_and_projection(matrix(&view), matrix(&projection), focal_length);
+            let numbers = of_camera(&camera);
+            assert_eq!(set, answer, "{i}");
+            assert_eq!(numbers.iter().all(|x| x.is_finite()), i < 2 || !answer, "{i}");
+            if i < 2 {
+                assert_eq!(numbers[..16], [0.0; 16], "{i}");
+                assert_eq!(numbers[16..], [0.0, 50.0, 100.0, 50.0, 0.0, 0.0, 2.0, 10.0], "{i}");
+            }
+        }
+        let why = told().into_iter().skip(6).map(|(_, (view, projection, _))| refusal(&view, &projection));
+        assert_eq!(why.collect::<Vec<_>>(), [SINGULAR, NO_PROJECTION, NOT_FINITE]);
+    }
 
     #[test]
     fn fixed_inputs_are_answered_as_they_are_meant() {

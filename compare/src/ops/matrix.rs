@@ -72,9 +72,20 @@ fn transpose() -> Box<dyn Op> {
         .op()
 }
 
+/// Matrices of docs/DIFFERENCES.md, each with its inverse: one that has none,
+/// and two whose determinant is infinite and whose cofactors are not.
+fn told() -> [(Matrix, Option<Matrix>); 3] {
+    [
+        (diagonal([1.0, 1.0, 0.0, 1.0]), None),
+        (diagonal([1e100, 1e100, 1e100, 1e10]), Some([0.0; 16])),
+        (diagonal([1e78; 4]), Some([0.0; 16])),
+    ]
+}
+
 fn inverse() -> Box<dyn Op> {
     call!(103 gf_inverse(m: 16) -> [f64; 16] { Ok(matrix(m).inverse().ok_or(SINGULAR)?.0) })
         .fixed(fixed().into_iter().map(|m| (m,)).collect())
+        .tried(told().map(|(m, _)| (m,)).into())
         .drawn(|_, rng| (inputs::matrix(rng),))
         .timed("placements", |_, rng| (inputs::placement(rng),))
         .op()
@@ -148,4 +159,31 @@ fn is_right_handed() -> Box<dyn Op> {
         .drawn(|_, rng| (inputs::matrix(rng),))
         .timed("placements", |_, rng| (inputs::placement(rng),))
         .op()
+}
+
+#[cfg(test)]
+mod tests {
+    use super::*;
+    use openusd::gf::{Mat4d, Plane, Vec3d};
+
+    #[test]
+    fn inverses_that_are_told_of() {
+        for (m, inverse) in told() {
+            assert_eq!(matrix(&m).inverse().map(|m| m.0), inverse, "{m:?}");
+        }
+    }
+
+    /// The same table's plane under the inverse that Gf documents of a singular
+    /// matrix, and under that of the Rust's own method of that kind, whose last
+    /// number is 1.
+    #[test]
+    fn a_plane_under_the_largest_single() {
+        let (m, largest) = (matrix(&told()[0].0), f64::from(f32::MAX));
+        let plane = Plane::new(Vec3d { x: 0.0, y: 0.0, z: 1.0 }, 5.0);
+        let under = |inverse: Mat4d| Plane::from_equation(inverse.transpose().transform_homogeneous(plane.equation()));
+        assert_eq!(plane.transformed(m), None);
+        assert_eq!(under(matrix(&diagonal([largest; 4]))), plane);
+        assert_eq!(m.inverse_or_max().0, diagonal([largest, largest, largest, 1.0]));
+        assert_eq!(under(m.inverse_or_max()), Plane { distance: 1.4693680261090186e-38, ..plane });
+    }
 }

@@ -1,7 +1,7 @@
 //! Planes.
 
 use crate::exported::{call, of_archive};
-use crate::inputs::{self, IDENTITY, Plane, Point, diagonal, with};
+use crate::inputs::{self, IDENTITY, Matrix, Plane, Point, diagonal, with};
 use crate::judge::SINGULAR;
 use crate::op::Op;
 use crate::rust::{homogeneous, matrix, of_plane, plane, point};
@@ -126,6 +126,12 @@ fn on_positive_side() -> Box<dyn Op> {
         .op()
 }
 
+/// Matrices of docs/DIFFERENCES.md, each with what becomes of the plane where z
+/// is 5: one without inverse, and one whose inverse is of zeros.
+fn told() -> [(Matrix, Option<Plane>); 2] {
+    [(diagonal([1.0, 1.0, 0.0, 1.0]), None), (diagonal([1e100, 1e100, 1e100, 1e10]), Some([0.0, 0.0, 0.0, -0.0]))]
+}
+
 fn transformed() -> Box<dyn Op> {
     let moved = with(diagonal([2.0, 3.0, 5.0, 1.0]), &[(1, 0.5), (12, 7.0), (13, -1.0)]);
     let first = |x: f64| with(IDENTITY, &[(0, x)]);
@@ -139,7 +145,22 @@ fn transformed() -> Box<dyn Op> {
         Ok(of_plane(plane(given).transformed(matrix(m)).ok_or(SINGULAR)?))
     })
     .fixed(fixed)
+    .tried(told().map(|(m, _)| ([0.0, 0.0, 1.0, 5.0], m)).into())
     .drawn(|_, rng| inputs::plane_and_matrix(rng))
     .timed("placements", |_, rng| (inputs::ordinary_plane(rng), inputs::placement(rng)))
     .op()
+}
+
+#[cfg(test)]
+mod tests {
+    use super::*;
+
+    #[test]
+    fn planes_that_are_told_of() {
+        for (m, under) in told() {
+            let bits = |plane: Plane| plane.map(f64::to_bits);
+            let answered = plane(&[0.0, 0.0, 1.0, 5.0]).transformed(matrix(&m)).map(of_plane);
+            assert_eq!(answered.map(bits), under.map(bits), "{m:?}");
+        }
+    }
 }

@@ -37,6 +37,12 @@ fn transformed() -> Box<dyn Op> {
         .op()
 }
 
+/// Rays of docs/DIFFERENCES.md, from one above the floor, each with the distance
+/// at which it meets the floor.
+fn told() -> [(Ray, Option<f64>); 2] {
+    [(-9e-11, None), (-1e-10, Some(1e10))].map(|(down, meets)| (ray_of([0.0, 0.0, 1.0], [0.0, 0.0, down]), meets))
+}
+
 fn intersect_plane() -> Box<dyn Op> {
     let floor = [0.0, 0.0, 1.0, 0.0];
     let down = |z: f64, facing: f64| ray_of([0.0, 0.0, z], [1.0, 0.0, facing]);
@@ -76,6 +82,7 @@ fn intersect_plane() -> Box<dyn Op> {
         Ok([distance, front.into()])
     })
     .fixed(fixed)
+    .tried(told().map(|(ray, _)| (ray, floor)).into())
     .drawn(|_, rng| inputs::ray_and_plane(rng))
     .timed("ordinary", |_, rng| (inputs::ordinary_ray(rng), inputs::ordinary_plane(rng)))
     .op()
@@ -144,4 +151,17 @@ fn intersect_triangle() -> Box<dyn Op> {
         (ray_of(start, std::array::from_fn(|i| onto[i] - start[i])), a, b, c)
     })
     .op()
+}
+
+#[cfg(test)]
+mod tests {
+    use super::*;
+
+    #[test]
+    fn rays_that_are_told_of() {
+        for (given, meets) in told() {
+            let answered = ray(&given).intersect_plane(&plane(&[0.0, 0.0, 1.0, 0.0]));
+            assert_eq!(answered, meets.map(|distance| (distance, true)), "{given:?}");
+        }
+    }
 }

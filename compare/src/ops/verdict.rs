@@ -432,6 +432,7 @@ fn of_box() -> Call<(Volume, Boxed)> {
     call!(221 gf_intersects_bbox(volume: Volume, b: 23) -> bool { box_seen(volume, held(volume)?, b, true) })
         .fixed(asked_boxes())
         .tried(super::exact_box::parted())
+        .tried(told_boxes())
         .mended(mended_boxes())
         .missing(&struck_boxes())
         .drawn(|_, rng| inputs::volume_and_box(rng))
@@ -462,6 +463,27 @@ fn inexact_boxes() -> [(Six, Boxed, bool); 4] {
     ]
 }
 
+/// Further boxes of that table, each with its verdict, which is not the exact
+/// one: without inverse, so that the range is taken as it stands; and one that
+/// touches a plane in a face.
+fn inexactly_placed() -> [(Six, Boxed, bool); 4] {
+    let beside = [20.0, 0.0, 0.0, 21.0, 1.0, 1.0];
+    let flat = diagonal([0.0, 1.0, 1.0, 1.0]);
+    let far = [5e5, 5e5, 5e5, 6e5, 6e5, 6e5];
+    let long = with(CUBE, &[(0, 49.0), (3, 343.0)]);
+    [
+        (CUBE, box_of(beside, flat, 0.0), false),
+        (CUBE, box_of(far, diagonal([1e-5, 1e-5, 1e-5, 1.0]), 0.0), false),
+        (CUBE, box_of(UNIT, with(flat, &[(12, 50.0)]), 0.0), true),
+        (long, unplaced([6.0, 0.0, 0.0, 7.0, 1.0, 1.0]), false),
+    ]
+}
+
+/// The same without their verdicts.
+pub(super) fn told_boxes() -> Vec<(Volume, Boxed)> {
+    inexactly_placed().map(|(six, b, _)| (Volume::of(six), b)).into()
+}
+
 /// Triangles of the same table, each with its verdict, which is not the exact
 /// one.
 fn inexact_triangles() -> [(Six, [Point; 3], bool); 3] {
@@ -490,6 +512,12 @@ fn inexact_triangles() -> [(Six, [Point; 3], bool); 3] {
 fn overflowing_clip() -> (Boxed, Matrix, bool) {
     let m = with(IDENTITY, &[(0, 1e308), (4, -1e308), (15, 100.0)]);
     (box_of([10.0, 10.0, 0.0, 10.0, 10.0, 0.0], IDENTITY, 0.0), m, false)
+}
+
+/// A range that touches the clip volume of the identity in a face, and is not in
+/// view there.
+fn touching_clip() -> Range {
+    [1.0, 0.0, 0.0, 2.0, 0.5, 0.5]
 }
 
 /// The verdict of the Rust in clip space.
@@ -563,6 +591,7 @@ fn of_view_volume() -> Call<(Boxed, Matrix)> {
         Ok(gf::Frustum::intersects_view_volume(&placed, matrix(m)))
     })
     .fixed(fixed)
+    .tried(vec![(unplaced(touching_clip()), IDENTITY)])
     .mended(mended_boxes)
     .missing(&struck)
     .drawn(|_, rng| inputs::box_and_view(rng))
@@ -591,6 +620,11 @@ mod tests {
         for (six, [p0, p1, p2], verdict) in inexact_triangles() {
             assert_eq!(triangle_seen(Volume::of(six).numbers(), 6, &p0, &p1, &p2), verdict, "{p0:?}");
         }
+        for (six, b, verdict) in inexactly_placed() {
+            assert_eq!(box_seen(Volume::of(six).numbers(), 6, &b, true), Ok(verdict), "{b:?}");
+        }
+        let touching = |least: f64| clip_seen(&unplaced(with(touching_clip(), &[(0, least)])), &IDENTITY);
+        assert_eq!([touching(1.0), touching(0.99)], [Ok(false), Ok(true)]);
         let (slope, ..) = inexact_boxes()[2];
         assert!(point_seen(Volume::of(slope).numbers(), 6, &[0.0, 0.0, 3.0]));
     }
