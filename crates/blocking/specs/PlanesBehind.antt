@@ -1,8 +1,8 @@
 -- The planes that a box is wholly behind, with a bit for each place: it is set where the box verdict by that plane alone is no. A box with an empty range is
 -- behind every plane. Definitions only.
 -- That verdict rounds: in the space of the box it makes a plane's normal unit length. By axis planes on the farm grid nothing is lost
--- (farmgrid/specs/PlanesBehind). By oblique planes a bit is not the exact answer: of the plane -1,-1,-1;-3 the box 0,0,3 to 1,1,4 has its corner 0,0,3, and yet
--- gets the bit.
+-- (farmgrid/specs/PlanesBehind). By other planes a bit is not the exact answer: the plane -1,-1,-1;-3 has the corner 0,0,3 of the box 0,0,3 to 1,1,4, and the
+-- plane 49,0,0;343 a face of the box 6,0,0 to 7,1,1, and both bits are set.
 use Prim.Native.Nat.{ℕ, _+_, _^_}
 use mathlib.Core.Bool.{Bool, not}
 use mathlib.Core.List.{List, [], _∷_}

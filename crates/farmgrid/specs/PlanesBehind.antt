@@ -1,5 +1,6 @@
--- The planes that a block is behind, on the farm grid: by axis planes each bit is the exact answer. By oblique planes it is not, since the test rounds there. Definitions and
--- statements only. `T b` says that the test b holds, and `A ↔ B` that A holds exactly where B does.
+-- The planes that a block is behind, on the farm grid: by axis planes each bit is the exact answer. By other planes, along an axis or not, the test rounds,
+-- and a bit may be set though the block touches the plane. Definitions and statements only.
+-- `T b` says that the test b holds, and `A ↔ B` that A holds exactly where B does.
 use mathlib.Core.Path.{_≡_}
 use mathlib.Core.Logic.{_↔_}
 use mathlib.Core.List.{List, _∷_, _++_}
