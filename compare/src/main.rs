@@ -28,6 +28,8 @@ mod ops;
 mod planted;
 mod program;
 mod reader;
+#[cfg(test)]
+mod readme;
 mod record;
 mod run;
 mod rust;
