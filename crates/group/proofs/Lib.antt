@@ -3,7 +3,6 @@ pub mod Written
 pub mod Records
 pub mod Slots
 pub mod BatchWays
-pub mod Spaces
 pub mod Ways
 pub mod Repeated
 pub mod EachCall

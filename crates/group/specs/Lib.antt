@@ -2,4 +2,3 @@
 pub mod Group
 pub mod Repeated
 pub mod Batch
-pub mod Steps

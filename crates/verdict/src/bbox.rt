@@ -42,7 +42,7 @@ pub fn is_flag(x: f64) -> bool
 }
 
 // Whether the first of two volumes is taken: it is smaller, or larger by the tolerance at most.
-pub fn preferred(v: f64, w: f64) -> bool
+fn preferred(v: f64, w: f64) -> bool
     ensures { λ r. ⌜ r ≡ preferred v w ⌝ }
 {
     let tolerance = order::max(1e-6 * order::abs(order::max(v, w)), 1e-10);
@@ -62,7 +62,7 @@ fn flag_number(b: bool) -> f64
     0.0
 }
 
-pub fn either(a: bool, b: bool) -> bool
+fn either(a: bool, b: bool) -> bool
     ensures { λ r. ⌜ r ≡ (a || b) ⌝ }
 {
     if a {
@@ -134,7 +134,7 @@ impl BBox3d {
     }
 
     // In its own space with another box, which the inverse of its matrix brings there.
-    pub fn extended_by(self, other: BBox3d, inverse: Mat4d) -> BBox3d
+    fn extended_by(self, other: BBox3d, inverse: Mat4d) -> BBox3d
         ensures { λ r. ⌜ r ≡ extended self other inverse ⌝ }
     {
         let matrix = self.matrix;
@@ -157,7 +157,7 @@ impl BBox3d {
     }
 
     // Of two boxes without an inverse: their aligned ranges united, in the world.
-    pub fn aligned_with(self, other: BBox3d) -> BBox3d
+    fn aligned_with(self, other: BBox3d) -> BBox3d
         ensures { λ r. ⌜ r ≡ aligned self other ⌝ }
     {
         BBox3d {
