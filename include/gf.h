@@ -199,8 +199,8 @@ uint32_t gf_range_within(const double *ranges, size_t ranges_len, const double *
  * In: normal 3, and the number distance. Out: 4 numbers. Refuses: 1, 2. */
 uint32_t gf_plane_new(const double *normal, size_t normal_len, double distance, double *out, size_t out_len);
 
-/* The plane through three points, facing the side from which they run counter-clockwise; its normal is made unit length as
- * by gf_plane_new.
+/* The plane of three points, which seen from its positive side go round against the clock; its normal is made unit length as by
+ * gf_plane_new.
  * In: p0 3, p1 3, p2 3. Out: 4 numbers. Refuses: 1, 2. */
 uint32_t gf_plane_from_points(const double *p0, size_t p0_len, const double *p1, size_t p1_len, const double *p2, size_t p2_len, double *out, size_t out_len);
 
@@ -277,14 +277,15 @@ uint32_t gf_projection_from_matrix(const double *m, size_t m_len, double *out, s
 
 /* ---- cameras */
 
-/* The camera of a view, which carries the world into camera space, and a projection. The focal length is given, since the
- * matrices fix its ratio to the apertures alone; focal length, apertures and offsets are in tenths of a world unit. The seven
- * numbers behind the kind are values of binary32: computed in double, narrowed once and widened again. 4: the view has no
- * inverse (as gf_inverse). 6: the projection is none (as gf_projection_from_matrix). 8: one of the 24 numbers is not finite,
- * because it overflows binary32, because the view's inverse holds a NaN or an infinity, or because the focal length is a NaN or
- * infinite. An infinite determinant of the view alone does not give 8: its reciprocal is 0, and finite cofactors times 0 are zeros,
- * so that the view diag(1e78,1e78,1e78,1e78) is accepted with a transform of zeros; diag(1e200,1e200,1e200,1), whose cofactors
- * overflow too, gets 8. A focal length of 0 or below, and near above far, are accepted. With status 0 all 24 numbers are finite.
+/* The camera of a view, which carries the world into camera space, and a projection. A lens of twice the focal length behind
+ * apertures of twice the size projects alike, so that the focal length is told besides. Focal length, apertures and offsets
+ * count tenths of the world's unit of length. The seven numbers behind the kind are values of binary32: computed in double,
+ * narrowed once and widened again. 4: the view has no inverse (as gf_inverse). 6: the projection is none (as
+ * gf_projection_from_matrix). 8: one of the 24 numbers is not finite, because it overflows binary32, because the view's
+ * inverse holds a NaN or an infinity, or because the focal length is a NaN or infinite. An infinite determinant of the view
+ * alone does not give 8: its reciprocal is 0, and finite cofactors times 0 are zeros, so that the view
+ * diag(1e78,1e78,1e78,1e78) is accepted with a transform of zeros; diag(1e200,1e200,1e200,1), whose cofactors overflow too,
+ * gets 8. A focal length of 0 or below, and near above far, are accepted. With status 0 all 24 numbers are finite.
  * In: view 16, projection 16. Out: 24 numbers. Refuses: 1, 2, 4, 6, 8. */
 uint32_t gf_camera_set_from_view_and_projection(const double *view, size_t view_len, const double *projection, size_t projection_len, float focal_length, double *out, size_t out_len);
 
