@@ -61,6 +61,6 @@ module _ (x : Float) (h : T (fits binary64 x)) (n : isNan x ≡ false) where
   pub masked-number : T (not (nanBits binary64 (bitAnd (toBits binary64 x) (2 ^ 63 - 1))))
   masked-number = subst (λ (b : Bool). T (not b)) (sym (nanBits-is binary64 _ ∙ ap isNan masked ∙ abs-number x n)) tt
 
-pub nan-abs : (x : Float) → x ≡ nan → x ≡ absOf x
+pub nan-abs : (x : Float) → x ≡ nan → nan ≡ absOf x
 unfolding absOf
-nan-abs x e = subst (λ (y : Float). y ≡ absOf y) (sym e) refl
+nan-abs x e = sym (ap absOf e)

@@ -1,25 +1,18 @@
 // The magnitude of a number, and the smaller and the larger of two.
 ghost use mathlib.Core.Path.{_≡_};
 ghost use mathlib.Core.Bool.{cond};
-ghost use lib.Ieee.{isNan, lt};
+ghost use lib.Ieee.{isNan};
 ghost use lib.Ieee.Scale.{finite};
 ghost use Rattle.number.specs.Arithmetic.{absOf, lowerOf, upperOf, minOf, maxOf};
 
-// |x|, by its bits.
+// |x|, by its bits. A NaN gives a constant, so that the compiler needs no test for it where the magnitude is compared with a constant.
 pub fn abs(x: f64) -> f64
     ensures { λ r. ⌜ r ≡ absOf x ⌝ }
 {
     if x != x {
-        return x;
+        return 0.0 / 0.0;
     }
     f64::from_bits(f64::to_bits(x) & 0x7fff_ffff_ffff_ffff)
-}
-
-// Whether |x| < bound. Of the two comparisons the compiler makes one, and the test for a NaN in `abs` is not there.
-pub fn is_within(x: f64, bound: f64) -> bool
-    ensures { λ r. ⌜ r ≡ lt (absOf x) bound ⌝ }
-{
-    (x < bound) & (-bound < x)
 }
 
 // Neither a NaN nor an infinity.

@@ -6,4 +6,4 @@ pub mod Worked
 pub mod Records
 pub mod Largest
 pub mod NearZero
-pub mod Sizes
+pub mod CloseEnough

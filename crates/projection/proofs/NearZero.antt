@@ -1,7 +1,7 @@
 -- A number is close to 0 where its size is at most 1e-6: one above 1 would have to be at most 1e-6 of itself. The idea: that is rounded to at most what half of the number is rounded to,
 -- and above 1 this is half of it. Assumes nothing.
 use mathlib.Core.Path.{_≡_, refl, sym, ap, _∙_, subst}
-use mathlib.Core.Bool.{Bool, true, false, cond, _&&_}
+use mathlib.Core.Bool.{Bool, true, false, cond}
 use Prim.Native.Nat.{ℕ, zero, suc, _-_, _*_, _^_, _≤_, _<_}
 use native.Mathlib.Nat.{mul-pos, mul-le-mul, mul-le-mul-right, zero-lt-suc}
 use native.Mathlib.Omega.{arith}
@@ -17,76 +17,15 @@ use lib.Ieee.Positive.{positive, positive-finite, value-pos, positive-of-value, 
 use lib.Ieee.Scale.{finite, grid, overflow, round-same, round-val, round-under, grid-scale, normal-of-fraction}
 use Rattle.number.specs.Arithmetic.{_⊖_, _⊗_, absOf, zeroOf, upperOf, maxOf}
 use Rattle.number.specs.Extremes.{Value}
-use Rattle.number.proofs.Comparisons.{le-through, lt-not-le, neg-le, refuted}
+use Rattle.number.proofs.Comparisons.{le-through, lt-not-le, refuted}
 use Rattle.number.proofs.Extremes.{is-zero}
 use Rattle.number.proofs.Formats.{round-self}
 use Rattle.number.proofs.Magnitude.{abs-fits}
-use Rattle.number.proofs.Places.{same-test}
-use Rattle.number.proofs.SidesOfZero.{side, sides-le, sides-not-lt}
+use Rattle.number.proofs.SidesOfZero.{side, sides-not-lt}
 use Rattle.number.proofs.Zeros.{number-before, both-zeros}
 use Rattle.matrix.specs.Constants.{one, positiveZero}
 use Rattle.projection.specs.Projection.{tolerance, close}
 use Rattle.projection.proofs.Largest.{largest}
-
--- ---- a size at most a bound, by two comparisons
-
-neg-twice : (x : Float) → neg (neg x) ≡ x
-unfolding neg
-neg-twice nan = refl
-neg-twice (inf true) = refl
-neg-twice (inf false) = refl
-neg-twice (fin true m e) = refl
-neg-twice (fin false m e) = refl
-
-both-hold : (a b : Bool) → T a → T b → T (a && b)
-both-hold true true p q = tt
-both-hold true false p q = absurd q
-both-hold false b p q = absurd p
-
-first-holds : (a b : Bool) → T (a && b) → T a
-first-holds true b p = tt
-first-holds false b p = absurd p
-
-second-holds : (a b : Bool) → T (a && b) → T b
-second-holds true b p = p
-second-holds false b p = absurd p
-
--- the opposite of a size is at most it
-mirrored : (m : ℕ) (e : ℤ) → T (le (fin true m e) (fin false m e))
-mirrored m e = sides-le (fin true m e) (fin false m e) tt tt
-
-over-opposite : (x b : Float) → T (le (neg b) x) → T (le (neg x) b)
-over-opposite x b h = subst (λ (y : Float). T (le (neg x) y)) (neg-twice b) (neg-le (neg b) x h)
-
--- nothing but +∞ is at least it
-infinite : (s : Bool) (b : Float) → T (le (inf false) b) → T (le (inf s) b && le (neg b) (inf s))
-unfolding neg le lt eq
-infinite s nan h = absurd h
-infinite true (inf false) h = tt
-infinite false (inf false) h = tt
-infinite s (inf true) h = absurd h
-infinite s (fin t n d) h = absurd h
-
-to-size : (x b : Float) → T (le x b && le (neg b) x) → T (le (absOf x) b)
-unfolding absOf neg
-to-size nan b h = first-holds (le nan b) (le (neg b) nan) h
-to-size (inf false) b h = first-holds (le (inf false) b) (le (neg b) (inf false)) h
-to-size (inf true) b h = over-opposite (inf true) b (second-holds (le (inf true) b) (le (neg b) (inf true)) h)
-to-size (fin false m e) b h = first-holds (le (fin false m e) b) (le (neg b) (fin false m e)) h
-to-size (fin true m e) b h = over-opposite (fin true m e) b (second-holds (le (fin true m e) b) (le (neg b) (fin true m e)) h)
-
-of-size : (x b : Float) → T (le (absOf x) b) → T (le x b && le (neg b) x)
-unfolding absOf neg le
-of-size nan b h = absurd h
-of-size (inf s) b h = infinite s b h
-of-size (fin false m e) b h =
-    both-hold (le (fin false m e) b) (le (neg b) (fin false m e)) h
-    (le-through (neg b) (fin true m e) (fin false m e) (neg-le (fin false m e) b h) (mirrored m e))
-of-size (fin true m e) b h =
-    both-hold (le (fin true m e) b) (le (neg b) (fin true m e)) (le-through (fin true m e) (fin false m e) b (mirrored m e) h) (neg-le (fin false m e) b h)
-
-sized : (x b : Float) → (le x b && le (neg b) x) ≡ le (absOf x) b
-sized x b = same-test (le x b && le (neg b) x) (le (absOf x) b) (to-size x b) (of-size x b)
 
 -- ---- a number above 1 is above what half of it is rounded to
 
@@ -129,11 +68,11 @@ module _ (a c : ℕ) (C : 0 < c) (k : c ≤ a) where
 
 -- ---- 1e-6 of a number
 
-tolerance-is : tolerance ≡ fin false 4722366482869645 (negsuc 71)
+pub tolerance-is : tolerance ≡ fin false 4722366482869645 (negsuc 71)
 unfolding round units odd size span climb trailingZeros
 tolerance-is = refl
 
-one-is : one ≡ fin false 1 (pos 0)
+pub one-is : one ≡ fin false 1 (pos 0)
 unfolding round units odd size span climb trailingZeros
 one-is = refl
 
@@ -211,6 +150,5 @@ size-decides (fin s m e) v =
     ∙ ap (λ (n : Float). le z (tolerance ⊗ n)) (largest (fin s m e) none large (upperOf large none) v tt refl refl)
     ∙ ap (λ (y : Float). le y (tolerance ⊗ maxOf (maxOf z none) one)) (sym (same-size s m e v))
 
--- a number is close to 0 by two comparisons
-pub near-zero : (x : Float) → Value x → (le x tolerance && le (neg tolerance) x) ≡ close x positiveZero
-near-zero x v = sized x tolerance ∙ size-decides x v ∙ ap (close x) (sym none-is)
+pub near-zero : (x : Float) → Value x → le (absOf x) tolerance ≡ close x positiveZero
+near-zero x v = size-decides x v ∙ ap (close x) (sym none-is)

@@ -7,6 +7,7 @@ use matrix::matrix::Mat4d;
 use matrix::vec::Vec4d;
 use number::limits::MATRIX_LENGTH;
 use number::order::abs;
+use number::order::is_finite;
 use number::order::upper;
 use number::slice;
 use number::slice::at;
@@ -124,21 +125,24 @@ fn orthographic_of(m: Mat4d) -> ProjectionParams
     )
 }
 
-// Whether a number of a matrix is the one that a projection holds there. Each size is the larger of a number and its opposite, since `abs` has a test for a NaN, and
-// the larger of the sizes is finite just where both numbers are, or the difference is a NaN.
+// Whether a number of a matrix is the one that a projection holds there. Nearly all are told by their difference alone: where that is at most the tolerance, both are
+// finite, and their sizes do not matter.
 fn close(given: f64, built: f64) -> bool
     ensures { λ r. ⌜ r ≡ close given built ⌝ }
 {
-    let size = upper(upper(upper(upper(1.0, given), -given), built), -built);
-    let off = given - built;
-    (size != 1.0 / 0.0) & (upper(off, -off) <= TOLERANCE * size)
+    let off = abs(given - built);
+    if off <= TOLERANCE {
+        return true;
+    }
+    let size = upper(upper(1.0, abs(given)), abs(built));
+    is_finite(given) & is_finite(built) & (off <= TOLERANCE * size)
 }
 
 // The same where a projection holds 0: no number above 1 is a millionth of its own size, so that its size is held to the millionth alone.
 fn close_to_zero(given: f64) -> bool
     ensures { λ r. ⌜ r ≡ close given positiveZero ⌝ }
 {
-    (given <= TOLERANCE) & (-TOLERANCE <= given)
+    abs(given) <= TOLERANCE
 }
 
 // Whether a volume, seen in perspective, gives a matrix back. What is 0 in what is built is known here.

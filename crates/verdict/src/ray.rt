@@ -12,7 +12,6 @@ use number::answer::Refusal;
 use number::format::narrow;
 use number::format::widen;
 use number::order::abs;
-use number::order::is_within;
 use number::slice;
 use number::slice::at;
 
@@ -262,7 +261,7 @@ impl Ray {
         ensures { λ r. ⌜ r ≡ planeHit self plane ⌝ }
     {
         let facing = self.direction.dot(plane.normal);
-        if is_within(facing, MIN_VECTOR_LENGTH) {
+        if abs(facing) < MIN_VECTOR_LENGTH {
             return PlaneHit::Miss;
         }
         let on_plane = plane.normal.scale(plane.distance);

@@ -1,12 +1,13 @@
 -- `number::order::abs` meets its contract: `proofs/Magnitude.antt` has the laws. Assumes nothing.
+use mathlib.Core.Path.{_∙_}
 use borrow.Author.Needs.{needs}
 use Rattle.number.proofs.Magnitude.{masked, masked-number, nan-abs}
-use Rattle.number.proofs.Nan.{is-nan, not-nan, number}
+use Rattle.number.proofs.Nan.{is-nan, not-nan, number, zero-by-zero}
 use Rattle.number.proofs.order.abs.Statement.{statement}
 use Rattle.number.proofs.order.abs.Tie as tie
 
 returns : tie.Need-returns
-returns c = nan-abs (c .before .args .x) (is-nan (c .before .args .x) (c .if1 .taken))
+returns c = zero-by-zero ∙ nan-abs (c .before .args .x) (is-nan (c .before .args .x) (c .if1 .taken))
 
 float-to-bits-result : tie.Need-float-to-bits-result
 float-to-bits-result c = number (c .before .args .x) (not-nan (c .before .args .x) (c .if1 .left))

@@ -1,16 +1,17 @@
 -- `projection::close` meets its contract: by what it calls, and since the largest of three numbers is the same in every order. Assumes nothing.
-use mathlib.Core.Path.{_≡_, refl, sym, ap, _∙_}
-use mathlib.Core.Bool.{Bool, false, _&&_}
+use mathlib.Core.Path.{_≡_, refl, sym, ap₂, _∙_, subst}
+use mathlib.Core.Bool.{Bool, true, _&&_}
 use borrow.Author.Needs.{needs}
-use lib.Ieee.{Float, inf, binary64, ofBits, div, le, ne, neg}
+use lib.Dec.{T}
+use lib.Ieee.{Float, le}
 use lib.Ieee.Scale.{finite}
-use Rattle.number.specs.Arithmetic.{_⊖_, _⊗_, absOf, upperOf, maxOf}
+use Rattle.number.specs.Arithmetic.{_⊖_, _⊗_, absOf, upperOf}
 use Rattle.number.specs.Extremes.{Value}
 use Rattle.matrix.specs.Constants.{one}
 use Rattle.matrix.proofs.Literals.{one-bits}
 use Rattle.projection.proofs.Largest.{largest}
 use Rattle.projection.proofs.Literals.{tolerance-bits}
-use Rattle.projection.proofs.Sizes.{largest-of, by-either, finite-both}
+use Rattle.projection.proofs.CloseEnough.{close-enough}
 use Rattle.projection.specs.Projection.{tolerance, close}
 use Rattle.projection.proofs.projection.close.Statement.{statement}
 use Rattle.projection.proofs.projection.close.Tie as tie
@@ -18,36 +19,32 @@ use Rattle.projection.proofs.projection.close.Tie as tie
 abbrev largestOf : Float → Float → Float
 largestOf g b = upperOf (upperOf one (absOf g)) (absOf b)
 
-unbounded : div binary64 (ofBits binary64 0x3ff0_0000_0000_0000) (ofBits binary64 0) ≡ inf false
-unfolding div ofBits
-unbounded = refl
+module _ (g b off t : Float) (v : Value g) (w : Value b) (h : off ≡ absOf (g ⊖ b)) (i : t ≡ tolerance) where
+  by-difference : le off t ≡ true → true ≡ close g b
+  by-difference e = sym (close-enough g b v w (subst T (sym (sym (ap₂ le h i) ∙ e)) tt))
 
-done : (g b n u t w : Float) → Value g → Value b → n ≡ largestOf g b → u ≡ upperOf (g ⊖ b) (neg (g ⊖ b)) → t ≡ tolerance → w ≡ inf false
-    → (ne n w && le u (t ⊗ n)) ≡ close g b
-unfolding close
-done g b n u t w v x h k i j =
-    (λ z. ne (h z) (j z) && le (k z) (i z ⊗ h z))
-    ∙ ap (λ (c : Bool). ne (largestOf g b) (inf false) && c) (by-either (g ⊖ b) (tolerance ⊗ largestOf g b))
-    ∙ finite-both g b (tolerance ⊗ largestOf g b)
-    ∙ ap (λ (y : Float). finite g && finite b && le (absOf (g ⊖ b)) (tolerance ⊗ y)) (largest g b (upperOf one (absOf g)) (largestOf g b) v x refl refl)
-
--- the four steps of the code
-stepped : (g b m n o p q : Float) → m ≡ one → n ≡ upperOf m g → o ≡ upperOf n (neg g) → p ≡ upperOf o b → q ≡ upperOf p (neg b) → q ≡ largestOf g b
-stepped g b m n o p q h i j k l =
-    l
-    ∙ ap (λ (x : Float). upperOf x (neg b)) (k ∙ ap (λ (x : Float). upperOf x b) (j ∙ ap (λ (x : Float). upperOf x (neg g)) (i ∙ ap (λ (x : Float). upperOf x g) h)))
-    ∙ largest-of g b
+  by-size : (n : Float) (x y : Bool) → n ≡ largestOf g b → x ≡ finite g → y ≡ finite b → (x && y && le off (t ⊗ n)) ≡ close g b
+  unfolding close
+  by-size n x y j k l = λ z. k z && l z && le (h z) (i z ⊗ (j ∙ largest g b (upperOf one (absOf g)) (largestOf g b) v w refl refl) z)
 
 returns : tie.Need-returns
 returns c =
-    let fourth = c .before in
-    let third = fourth .before in
-    let second = third .before in
-    let first = second .before in
-    let a = first .before .args in
-    done (a .given) (a .built) _ _ _ _ (search needs) (search needs)
-    (stepped (a .given) (a .built) _ _ _ _ _ one-bits (first .upper .ensures) (second .upper2 .ensures) (third .upper3 .ensures) (fourth .upper4 .ensures))
-    (c .upper5 .ensures) tolerance-bits unbounded
+    let a = c .before .before .args in
+    by-difference (a .given) (a .built) _ _ (search needs) (search needs) (c .before .abs .ensures) tolerance-bits (c .if1 .taken)
+
+returns-2 : tie.Need-returns-2
+returns-2 c =
+    let finite-given = c .before in
+    let large = finite-given .before in
+    let built = large .before in
+    let first = built .before in
+    let given = first .before in
+    let off = given .before .before in
+    let a = off .before .args in
+    by-size (a .given) (a .built) _ _ (search needs) (search needs) (off .abs .ensures) tolerance-bits _ _ _
+    (large .upper2 .ensures ∙ ap₂ upperOf (first .upper .ensures ∙ ap₂ upperOf one-bits (given .abs2 .ensures)) (built .abs3 .ensures))
+    (finite-given .is-finite .ensures) (c .is-finite2 .ensures)
 
 pub close-spec : {M : Type 1} → statement M
-close-spec = tie.close (tie.spec (λ c κs. tt) (λ c κs. tt) (λ c κs. tt) (λ c κs. tt) (λ c κs. tt) returns)
+close-spec =
+    tie.close (tie.spec (λ c κs. tt) returns (λ c κs. tt) (λ c κs. tt) (λ c κs. tt) (λ c κs. tt) (λ c κs. tt) (λ c κs. tt) returns-2)

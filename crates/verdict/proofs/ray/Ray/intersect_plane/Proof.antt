@@ -13,13 +13,13 @@ use Rattle.verdict.specs.Ray.{facing, distanceAlong, planeHit}
 use Rattle.verdict.proofs.ray.Ray.intersect_plane.Statement.{statement}
 use Rattle.verdict.proofs.ray.Ray.intersect_plane.Tie as tie
 
-module _ (r : Ray) (p : Plane) (f : Float) (b : Bool) (h : f ≡ facing r p) (i : b ≡ lt (absOf f) (ofBits binary64 0x3ddb_7cdf_d9d7_bdbb)) where
-  beside : b ≡ true → Miss ≡ planeHit r p
+module _ (r : Ray) (p : Plane) (f a : Float) (h : f ≡ facing r p) (i : a ≡ absOf f) where
+  beside : lt a (ofBits binary64 0x3ddb_7cdf_d9d7_bdbb) ≡ true → Miss ≡ planeHit r p
   unfolding planeHit
   beside t = let u = rw (i, min-length-bits, h) at t in rw u
 
   module _ (on to : Vec3d) (d : Float) (j : on ≡ multiple (p .normal) (p .distance)) (k : to ≡ difference on (r .start)) (l : d ≡ dot to (p .normal))
-      (t : b ≡ false) where
+      (t : lt a (ofBits binary64 0x3ddb_7cdf_d9d7_bdbb) ≡ false) where
     reached : d ⊘ f ≡ distanceAlong r p
     reached = rw (l, k, j, h)
 
@@ -38,7 +38,7 @@ module _ (r : Ray) (p : Plane) (f : Float) (b : Bool) (h : f ≡ facing r p) (i 
         rw (u, w)
 
 returns : tie.Need-returns
-returns c = beside _ _ _ _ (c .before .before .dot .ensures) (c .before .is-within .ensures) (c .if1 .taken)
+returns c = beside _ _ _ _ (c .before .before .dot .ensures) (c .before .abs .ensures) (c .if1 .taken)
 
 returns-2 : tie.Need-returns-2
 returns-2 c =
@@ -46,7 +46,7 @@ returns-2 c =
     let moved = dotted .before in
     let scaled = moved .before in
     let tested = scaled .before in
-    ahead _ _ _ _ (tested .before .before .dot .ensures) (tested .before .is-within .ensures) _ _ _ (scaled .scale .ensures) (moved .sub .ensures)
+    ahead _ _ _ _ (tested .before .before .dot .ensures) (tested .before .abs .ensures) _ _ _ (scaled .scale .ensures) (moved .sub .ensures)
     (dotted .dot2 .ensures)
     (tested .if1 .left) (c .if2 .taken)
 
@@ -56,7 +56,7 @@ returns-3 c =
     let moved = dotted .before in
     let scaled = moved .before in
     let tested = scaled .before in
-    behind _ _ _ _ (tested .before .before .dot .ensures) (tested .before .is-within .ensures) _ _ _ (scaled .scale .ensures) (moved .sub .ensures)
+    behind _ _ _ _ (tested .before .before .dot .ensures) (tested .before .abs .ensures) _ _ _ (scaled .scale .ensures) (moved .sub .ensures)
     (dotted .dot2 .ensures)
     (tested .if1 .left) (c .if2 .left)
 
