@@ -15,14 +15,13 @@ use Rattle.number.specs.Answer.{Reply, unless, has, leaving}
 use Rattle.number.specs.Every.{every}
 use Rattle.number.specs.declared.answer.Refusal.the-variants.{Miss as MissRefusal}
 use Rattle.number.proofs.Tests.{both-hold}
-use Rattle.matrix.specs.Vec.{vec3Of, difference}
+use Rattle.matrix.specs.Vec.{vec3Of}
 use Rattle.verdict.specs.declared.ray.Ray.{Ray}
 use Rattle.verdict.specs.declared.ray.Triangle.{Triangle}
-use Rattle.verdict.specs.declared.ray.PlaneHit.{PlaneHit}
-use Rattle.verdict.specs.declared.ray.PlaneHit.the-variants.{At, Miss}
+use Rattle.verdict.specs.declared.ray.Meeting.{Meeting}
 use Rattle.verdict.specs.declared.ray.TriangleHit.{TriangleHit}
 use Rattle.verdict.specs.declared.ray.TriangleHit.the-variants.{Hit, Refused}
-use Rattle.verdict.specs.Ray.{rayOf, pointAt, planeHit, projected, betaOf, alphaOf, gammaOf, inSpan, notNegative, weighed, within, triangleOf, hitOf, triangleHit}
+use Rattle.verdict.specs.Ray.{rayOf, triangleOf, meetingOf, hitIn, hitOf, triangleHit}
 use Rattle.verdict.specs.RayCalls.{triangleHitCall}
 use Rattle.hail.specs.Hail.{rays, raysOf, rayCount, areRays, noHit, landed, numbersOf, slotsOf, hitsOf, Left, left, raysCall}
 use Rattle.hail.specs.EachCall.{eachCall, joined, RaysAreEachCall, SlotsTellHitOrMiss}
@@ -92,26 +91,16 @@ rays-are-each-call s p0 p1 p2 out slots e =
 abbrev HitOrMiss : TriangleHit → Type 0
 HitOrMiss h = (eqb (landed h .status) 0 || eqb (landed h .status) 5) ≡ true
 
-either : (b : Bool) (d g a c : Float) (front : Bool) (h : TriangleHit) → h ≡ unless b (Refused MissRefusal) (Hit d g a c front) → HitOrMiss h
-either b d g a c front h e = ap (λ (k : TriangleHit). eqb (landed k .status) 0 || eqb (landed k .status) 5) e ∙ go b
+of-meeting : (m : Meeting) → HitOrMiss (hitIn m)
+of-meeting m = go (m .hit)
   where
-    go : (b : Bool) → HitOrMiss (unless b (Refused MissRefusal) (Hit d g a c front))
+    go : (b : Bool) → HitOrMiss (unless b (Refused MissRefusal) (Hit (m .distance) (m .gamma) (m .alpha) (m .beta) (m .front)))
     go true = refl
     go false = refl
 
-meets : (r : Ray) (t : Triangle) (h : PlaneHit) → HitOrMiss (within h r t)
-unfolding weighed
-meets r t Miss = refl
-meets r t (At d front) =
-    let met = projected (t .axis) (difference (pointAt r d) (t .first)) in
-    let beta = betaOf met (t .second) (t .third) in
-    let alpha = alphaOf met (t .second) (t .third) beta in
-    let gamma = gammaOf alpha beta in
-    either (inSpan beta && notNegative alpha && notNegative gamma) d gamma alpha beta front (weighed d front met (t .second) (t .third)) refl
-
 hit-or-miss : (r : Ray) (t : Triangle) → HitOrMiss (hitOf r t)
 unfolding hitOf
-hit-or-miss r t = meets r t (planeHit r (t .plane))
+hit-or-miss r t = of-meeting (meetingOf r t)
 
 every-slot : (ss : List (List Float)) (f : List Float → TriangleHit) → ((r : List Float) → HitOrMiss (f r)) → every (λ (n : ℕ). eqb n 0 || eqb n 5) (slotsOf (map f ss)) ≡ true
 unfolding every

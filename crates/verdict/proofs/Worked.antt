@@ -25,7 +25,7 @@ use Rattle.verdict.specs.declared.ray.TriangleHit.the-variants.{Hit}
 use Rattle.verdict.specs.Plane.{plane, offset, fromEquation, distanceTo, onPositiveSide}
 use Rattle.verdict.specs.BBox.{box, isDegenerate}
 use Rattle.verdict.specs.Frustum.{crossing}
-use Rattle.verdict.specs.Ray.{ray, planeHit, faced, settled, betaOf, alphaOf, gammaOf, weighed, hitOf, triangleHit, triangleHitNumbers}
+use Rattle.verdict.specs.Ray.{ray, planeHit, faced, settled, betaOf, alphaOf, gammaOf, weighed, meetingOf, hitOf, triangleHit, triangleHitNumbers}
 
 abbrev o : Float
 o = positiveZero
@@ -127,14 +127,14 @@ fifth = fin false 3602879701896397 (negsuc 53)
 
 -- "Keeping gamma unrounded changes a hit's weights": it is 11744051 / 2 ^ 24, and not 0.7
 rounded-gamma : triangleHit (down tenth fifth one) corner (vec one o o) (vec o one o) ≡ Hit (fin false 1 (pos 0)) (fin false 11744051 (negsuc 23)) tenth fifth true
-unfolding triangleHit hitOf planeHit faced weighed betaOf alphaOf gammaOf settled narrowOf normalized lengthOf sqrtOf absOf maxOf isNan add sub mul div neg lt le
+unfolding triangleHit hitOf meetingOf planeHit faced weighed betaOf alphaOf gammaOf settled narrowOf normalized lengthOf sqrtOf absOf maxOf isNan add sub mul div neg lt le
 rounded-gamma = refl
 
 -- past an edge by 1e-9, and a triangle without area
 outside : triangleHitNumbers (triangleHit (down (neg (rounded 1 (10 ^ 9))) half one) corner (vec one o o) (vec o one o)) ≡ refused 5
-unfolding triangleHit hitOf planeHit faced weighed betaOf alphaOf gammaOf settled narrowOf normalized lengthOf sqrtOf absOf maxOf isNan add sub mul div neg lt le
+unfolding triangleHit hitOf meetingOf planeHit faced weighed betaOf alphaOf gammaOf settled narrowOf normalized lengthOf sqrtOf absOf maxOf isNan add sub mul div neg lt le
 outside = refl
 
 no-area : triangleHitNumbers (triangleHit (down half o one) corner (vec one o o) (vec (rounded 2 1) o o)) ≡ refused 5
-unfolding triangleHit hitOf planeHit faced weighed betaOf alphaOf gammaOf settled narrowOf normalized lengthOf sqrtOf absOf maxOf isNan add sub mul div neg lt le
+unfolding triangleHit hitOf meetingOf planeHit faced weighed betaOf alphaOf gammaOf settled narrowOf normalized lengthOf sqrtOf absOf maxOf isNan add sub mul div neg lt le
 no-area = refl

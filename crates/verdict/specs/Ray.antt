@@ -104,13 +104,17 @@ inSpan beta = le positiveZero beta && le beta one
 abbrev pub notNegative : Float → Bool
 notNegative w = not (lt w positiveZero)
 
--- the answer to a ray that meets the triangle's plane
-unfoldable pub weighed : Float → Bool → Flat → Flat → Flat → TriangleHit
+-- a ray that meets the triangle's plane: all numbers, and whether they are those of a hit
+unfoldable pub weighed : Float → Bool → Flat → Flat → Flat → Meeting
 weighed distance front d0 d1 d2 =
     let beta = betaOf d0 d1 d2 in
     let alpha = alphaOf d0 d1 d2 beta in
     let gamma = gammaOf alpha beta in
-    unless (inSpan beta && notNegative alpha && notNegative gamma) (Refused MissRefusal) (Hit distance gamma alpha beta front)
+    record { distance = distance; gamma = gamma; alpha = alpha; beta = beta; front = front; hit = inSpan beta && notNegative alpha && notNegative gamma }
+
+-- a ray that misses the plane
+abbrev pub noMeeting : Meeting
+noMeeting = let o = positiveZero in record { distance = o; gamma = o; alpha = o; beta = o; front = false; hit = false }
 
 -- What the hits of a triangle share: its plane, its first point, the axis that the plane faces, and the second and the third point from the first, projected.
 abbrev pub triangleOf : Vec3d → Vec3d → Vec3d → Triangle
@@ -119,16 +123,19 @@ triangleOf p0 p1 p2 =
     let a = faced (p .normal) in
     record { plane = p; first = p0; axis = a; second = projected a (difference p1 p0); third = projected a (difference p2 p0) }
 
-abbrev pub within : PlaneHit → Ray → Triangle → TriangleHit
+abbrev pub within : PlaneHit → Ray → Triangle → Meeting
 within (At d front) r t = weighed d front (projected (t .axis) (difference (pointAt r d) (t .first))) (t .second) (t .third)
-within Miss r t = Refused MissRefusal
+within Miss r t = noMeeting
 
-unfoldable pub hitOf : Ray → Triangle → TriangleHit
-hitOf r t = within (planeHit r (t .plane)) r t
+unfoldable pub meetingOf : Ray → Triangle → Meeting
+meetingOf r t = within (planeHit r (t .plane)) r t
 
--- what a meeting says
+-- the answer: the numbers of a hit, or the miss
 abbrev pub hitIn : Meeting → TriangleHit
 hitIn m = unless (m .hit) (Refused MissRefusal) (Hit (m .distance) (m .gamma) (m .alpha) (m .beta) (m .front))
+
+unfoldable pub hitOf : Ray → Triangle → TriangleHit
+hitOf r t = hitIn (meetingOf r t)
 
 unfoldable pub triangleHit : Ray → Vec3d → Vec3d → Vec3d → TriangleHit
 triangleHit r p0 p1 p2 = hitOf r (triangleOf p0 p1 p2)

@@ -2,7 +2,7 @@
 ghost use mathlib.Core.Path.{_≡_};
 ghost use mathlib.Core.Bool.{_&&_};
 ghost use lib.Ieee.{lt};
-ghost use Rattle.verdict.specs.Ray.{numbers, rayOf, pointAt, transformed, planeHit, frontFlag, faced, projected, settled, betaOf, alphaOf, gammaOf, weighed, triangleOf, hitOf, hitIn, triangleHit};
+ghost use Rattle.verdict.specs.Ray.{numbers, rayOf, pointAt, transformed, planeHit, frontFlag, faced, projected, settled, betaOf, alphaOf, gammaOf, weighed, triangleOf, meetingOf, hitIn, hitOf, triangleHit};
 ghost use Rattle.number.specs.Slice.{stored};
 use crate::plane::Plane;
 use matrix::matrix::Mat4d;
@@ -40,8 +40,8 @@ pub enum TriangleHit {
     Refused(Refusal),
 }
 
-// The numbers of a hit and whether there is one; where there is none they stand for nothing. What would be a branch is a number here, so that the numbers of
-// several rays are on their way at a time.
+// The numbers of a ray that meets a triangle's plane, and whether they are those of a hit; zeros where it misses the plane. What would be a branch is a number here,
+// so that the numbers of several rays are on their way at a time.
 pub struct Meeting {
     pub distance: f64,
     pub gamma: f64,
@@ -156,7 +156,7 @@ impl Flat {
     }
 
     fn weighed(self, d1: Flat, d2: Flat, distance: f64, front: bool) -> TriangleHit
-        ensures { λ r. ⌜ r ≡ weighed distance front self d1 d2 ⌝ }
+        ensures { λ r. ⌜ r ≡ hitIn (weighed distance front self d1 d2) ⌝ }
     {
         let beta = self.beta(d1, d2);
         if !(beta >= 0.0) {
@@ -212,7 +212,7 @@ impl Triangle {
 
     // The same, with all weights before any is looked at.
     pub fn met_by(self, ray: Ray) -> Meeting
-        ensures { λ r. ⌜ hitIn r ≡ hitOf ray self ⌝ }
+        ensures { λ r. ⌜ r ≡ meetingOf ray self ⌝ }
     {
         let PlaneHit::At { distance, front } = ray.intersect_plane(self.plane) else {
             return Meeting {

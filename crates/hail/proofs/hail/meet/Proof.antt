@@ -10,7 +10,7 @@ use Rattle.number.specs.Limits.{hitLength}
 use Rattle.verdict.specs.declared.ray.Ray.{Ray}
 use Rattle.verdict.specs.declared.ray.Triangle.{Triangle}
 use Rattle.verdict.specs.declared.ray.TriangleHit.{TriangleHit}
-use Rattle.verdict.specs.Ray.{rayOf, hitOf}
+use Rattle.verdict.specs.Ray.{rayOf, meetingOf, hitIn, hitOf}
 use Rattle.hail.specs.Hail.{rays, numbersOf, slotsOf}
 use Rattle.hail.proofs.Passed.{all-slots, all-numbers, no-slot-passed, no-number-passed, slot-passed, number-passed, stored-length, slots-passed, numbers-passed}
 use Rattle.hail.proofs.hail.meet.Statement.{statement}
@@ -18,6 +18,10 @@ use Rattle.hail.proofs.hail.meet.Tie as tie
 
 abbrev on : Triangle → List Float → TriangleHit
 on t r = hitOf (rayOf r) t
+
+answered : (r : Ray) (t : Triangle) → hitIn (meetingOf r t) ≡ hitOf r t
+unfolding hitOf
+answered r t = refl
 
 abbrev Inv-loop : tie.InvT-loop
 Inv-loop triangle s out₀ status₀ i₀ out status i =
@@ -48,7 +52,7 @@ loop-again c =
     let n = length (a .status .now) in
     let hit = met .met-by .result in
     let k = slotted .slot .result in
-    let h = met .met-by .ensures ∙ ap (λ (r : Ray). hitOf r (a .triangle)) (read .ray-at .ensures) in
+    let h = ap hitIn (met .met-by .ensures) ∙ answered _ _ ∙ ap (λ (r : Ray). hitOf r (a .triangle)) (read .ray-at .ensures) in
     let many = length-set (l .status) (l .i) k in
     let fits : l .i * hitLength + hitLength ≤ length (l .out) = omega (arith, start .pre .1, l .inv .1, l .inv .2) in (
       omega (arith, many),

@@ -8,12 +8,12 @@ use Rattle.matrix.specs.Constants.{positiveZero, one}
 use Rattle.matrix.proofs.Literals.{zero-bits, one-bits}
 use Rattle.verdict.specs.declared.ray.Flat.{Flat}
 use Rattle.verdict.specs.declared.ray.TriangleHit.the-variants.{Hit, Refused}
-use Rattle.verdict.specs.Ray.{betaOf, alphaOf, gammaOf, weighed}
+use Rattle.verdict.specs.Ray.{betaOf, alphaOf, gammaOf, weighed, hitIn}
 use Rattle.verdict.proofs.ray.Flat.weighed.Statement.{statement}
 use Rattle.verdict.proofs.ray.Flat.weighed.Tie as tie
 
 module _ (distance : Float) (front : Bool) (d0 d1 d2 : Flat) (beta : Float) (p : beta ≡ betaOf d0 d1 d2) where
-  below : le (ofBits binary64 0) beta ≡ false → Refused Miss ≡ weighed distance front d0 d1 d2
+  below : le (ofBits binary64 0) beta ≡ false → Refused Miss ≡ hitIn (weighed distance front d0 d1 d2)
   unfolding weighed
   below t = let t' = rw zero-bits at t in rw (← p, t')
 
@@ -21,7 +21,7 @@ module _ (distance : Float) (front : Bool) (d0 d1 d2 : Flat) (beta : Float) (p :
     reached : le positiveZero beta ≡ true
     reached = rw zero-bits at t
 
-    beyond : le beta (ofBits binary64 0x3ff0_0000_0000_0000) ≡ false → Refused Miss ≡ weighed distance front d0 d1 d2
+    beyond : le beta (ofBits binary64 0x3ff0_0000_0000_0000) ≡ false → Refused Miss ≡ hitIn (weighed distance front d0 d1 d2)
     unfolding weighed
     beyond u = let u' = rw one-bits at u in rw (← p, reached, u')
 
@@ -30,18 +30,18 @@ module _ (distance : Float) (front : Bool) (d0 d1 d2 : Flat) (beta : Float) (p :
       kept : le beta one ≡ true
       kept = rw one-bits at u
 
-      no-alpha : lt alpha (ofBits binary64 0) ≡ true → Refused Miss ≡ weighed distance front d0 d1 d2
+      no-alpha : lt alpha (ofBits binary64 0) ≡ true → Refused Miss ≡ hitIn (weighed distance front d0 d1 d2)
       unfolding weighed
       no-alpha v = let v' = rw zero-bits at v in rw (← p, ← q, reached, kept, v')
 
-      no-gamma : lt alpha (ofBits binary64 0) ≡ false → lt gamma (ofBits binary64 0) ≡ true → Refused Miss ≡ weighed distance front d0 d1 d2
+      no-gamma : lt alpha (ofBits binary64 0) ≡ false → lt gamma (ofBits binary64 0) ≡ true → Refused Miss ≡ hitIn (weighed distance front d0 d1 d2)
       unfolding weighed
       no-gamma v w =
           let v' = rw zero-bits at v in
           let w' = rw zero-bits at w in
           rw (← p, ← q, ← r, reached, kept, v', w')
 
-      hit : lt alpha (ofBits binary64 0) ≡ false → lt gamma (ofBits binary64 0) ≡ false → Hit distance gamma alpha beta front ≡ weighed distance front d0 d1 d2
+      hit : lt alpha (ofBits binary64 0) ≡ false → lt gamma (ofBits binary64 0) ≡ false → Hit distance gamma alpha beta front ≡ hitIn (weighed distance front d0 d1 d2)
       unfolding weighed
       hit v w =
           let v' = rw zero-bits at v in

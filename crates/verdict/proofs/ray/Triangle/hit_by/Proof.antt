@@ -11,17 +11,17 @@ use Rattle.verdict.specs.declared.ray.Triangle.{Triangle}
 use Rattle.verdict.specs.declared.ray.PlaneHit.{PlaneHit}
 use Rattle.verdict.specs.declared.ray.PlaneHit.the-variants.{At}
 use Rattle.verdict.specs.declared.ray.TriangleHit.{TriangleHit}
-use Rattle.verdict.specs.Ray.{pointAt, planeHit, projected, weighed, within, hitOf}
+use Rattle.verdict.specs.Ray.{pointAt, planeHit, projected, weighed, within, meetingOf, hitIn, hitOf}
 use Rattle.verdict.proofs.ray.Triangle.hit_by.Statement.{statement}
 use Rattle.verdict.proofs.ray.Triangle.hit_by.Tie as tie
 
 module _ (r : Ray) (t : Triangle) (hit : PlaneHit) (h : hit ≡ planeHit r (t .plane)) where
-  by-case : (k : PlaneHit) → hit ≡ k → within k r t ≡ hitOf r t
-  unfolding hitOf
+  by-case : (k : PlaneHit) → hit ≡ k → hitIn (within k r t) ≡ hitOf r t
+  unfolding hitOf meetingOf
   by-case k q = rw (← q, h)
 
   met : (d : Float) (front : Bool) (m s : Vec3d) (d0 : Flat) (k : TriangleHit) → hit ≡ At d front → m ≡ pointAt r d → s ≡ difference m (t .first)
-      → d0 ≡ projected (t .axis) s → k ≡ weighed d front d0 (t .second) (t .third) → k ≡ hitOf r t
+      → d0 ≡ projected (t .axis) s → k ≡ hitIn (weighed d front d0 (t .second) (t .third)) → k ≡ hitOf r t
   met d front m s d0 k q i j l n = rw (n, l, j, i) (by-case (At d front) q)
 
 enum-known-distance : tie.Need-enum-known-distance

@@ -1,6 +1,6 @@
 -- `Triangle::met_by` meets its contract by the cases of the hit of the plane, and by the weights of what it calls. Assumes nothing.
 use mathlib.Core.Path.{_≡_}
-use mathlib.Core.Bool.{Bool, not, _&&_}
+use mathlib.Core.Bool.{Bool, false, not, _&&_}
 use borrow.Author.Needs.{needs}
 use lib.Ieee.{Float, binary64, ofBits, lt, le}
 use Rattle.matrix.specs.declared.vec.Vec3d.{Vec3d}
@@ -10,31 +10,41 @@ use Rattle.verdict.specs.declared.ray.Ray.{Ray}
 use Rattle.verdict.specs.declared.ray.Flat.{Flat}
 use Rattle.verdict.specs.declared.ray.Triangle.{Triangle}
 use Rattle.verdict.specs.declared.ray.PlaneHit.{PlaneHit}
-use Rattle.verdict.specs.declared.ray.PlaneHit.the-variants.{At}
-use Rattle.verdict.specs.Ray.{pointAt, planeHit, projected, betaOf, alphaOf, gammaOf, weighed, within, hitOf, hitIn}
+use Rattle.verdict.specs.declared.ray.PlaneHit.the-variants.{At, Miss}
+use Rattle.verdict.specs.Ray.{pointAt, planeHit, projected, betaOf, alphaOf, gammaOf, weighed, within, meetingOf}
 use Rattle.verdict.proofs.ray.Triangle.met_by.Statement.{statement}
 use Rattle.verdict.proofs.ray.Triangle.met_by.Tie as tie
 
 module _ (r : Ray) (t : Triangle) (hit : PlaneHit) (h : hit ≡ planeHit r (t .plane)) where
-  by-case : (k : PlaneHit) → hit ≡ k → within k r t ≡ hitOf r t
-  unfolding hitOf
+  by-case : (k : PlaneHit) → hit ≡ k → within k r t ≡ meetingOf r t
+  unfolding meetingOf
   by-case k q = rw (← q, h)
+
+  missed : hit ≡ Miss → record {
+    distance = ofBits binary64 0;
+    gamma = ofBits binary64 0;
+    alpha = ofBits binary64 0;
+    beta = ofBits binary64 0;
+    front = false;
+    hit = false;
+  } ≡ meetingOf r t
+  missed q = rw zero-bits (by-case Miss q)
 
   met : (d : Float) (front : Bool) (m s : Vec3d) (d0 : Flat) (beta alpha gamma : Float) → hit ≡ At d front → m ≡ pointAt r d → s ≡ difference m (t .first)
       → d0 ≡ projected (t .axis) s → beta ≡ betaOf d0 (t .second) (t .third) → alpha ≡ alphaOf d0 (t .second) (t .third) beta → gamma ≡ gammaOf alpha beta
-      → hitIn (record {
+      → record {
         distance = d;
         gamma = gamma;
         alpha = alpha;
         beta = beta;
         front = front;
         hit = le (ofBits binary64 0) beta && le beta (ofBits binary64 0x3ff0_0000_0000_0000) && not (lt alpha (ofBits binary64 0)) && not (lt gamma (ofBits binary64 0));
-      }) ≡ hitOf r t
+      } ≡ meetingOf r t
   unfolding weighed
   met d front m s d0 beta alpha gamma q i j l u v w = rw (zero-bits, one-bits, w, v, u, l, j, i) (by-case (At d front) q)
 
 returns : tie.Need-returns
-returns c = by-case _ _ _ (c .before .before .intersect-plane .ensures) _ (c .enum-told .given .1)
+returns c = missed _ _ _ (c .before .before .intersect-plane .ensures) (c .enum-told .given .1)
 
 returns-2 : tie.Need-returns-2
 returns-2 c =
