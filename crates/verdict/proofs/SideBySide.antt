@@ -1,24 +1,26 @@
 -- Planes held in rows: those of a record that was gathered into them, one plane more, and what follows for the verdicts. Assumes nothing.
 use mathlib.Core.Path.{_≡_, refl, sym, ap, subst, _∙_}
 use mathlib.Core.Logic.{⊎-elim}
-use mathlib.Core.Bool.{Bool}
+use mathlib.Core.Bool.{Bool, true}
 use mathlib.Core.List.{List}
-use Prim.Native.Nat.{ℕ, zero, suc, _+_, _<_}
+use Prim.Native.Nat.{ℕ, zero, suc, _+_, _≤_, _<_}
 use native.Mathlib.Nat.{eq-or-lt-of-le}
+use native.Mathlib.Numerals.{add-one}
 use native.Mathlib.Omega.{arith}
-use borrow.Author.Tests.{eq-eqb, ne-eqb}
+use borrow.Author.Tests.{eq-eqb}
 use lib.ListN.{length, set, length-set, replicate, length-replicate}
 use lib.Seq.{getD-set-same, getD-set-other}
 use lib.Ieee.{Float, binary64, nan, ofBits}
 use Rattle.number.specs.Limits.{planeLength, mostPlanes}
-use Rattle.number.specs.Answer.{Outcome, result, has}
+use Rattle.number.specs.Answer.{Outcome, refused, result, unless, has}
 use Rattle.number.specs.Slice.{at}
 use Rattle.verdict.specs.declared.plane.Plane.{Plane}
 use Rattle.verdict.specs.Plane.{plane}
-use Rattle.verdict.specs.View.{planeStart, planeAt, planesOf}
-use Rattle.verdict.specs.Rows.{rowsLength, rowPlace, InRows, Loaded, planeInRows, planesInRows}
+use Rattle.verdict.specs.View.{planeStart, planeAt, planesOf, planesHeld}
+use Rattle.verdict.specs.Rows.{rowsLength, rowPlace, InRows, withPlane, withPlanes, loaded, planeInRows, planesInRows}
 use Rattle.verdict.specs.Frustum.{pointInView, segmentInView, triangleInView, boxInView}
-use Rattle.verdict.specs.SideBySide.{PlanesEqual, OneAnswer, VerdictsAgree, BeyondUnread}
+use Rattle.verdict.specs.SideBySide.{EveryPlace, PlanesEqual, OneAnswer, VerdictsAgree, BeyondUnread}
+use Rattle.verdict.proofs.PlanesHeld.{held}
 use Rattle.verdict.proofs.ViewLists.{same-values}
 
 -- a number of the first row stands at the plane's own place
@@ -43,8 +45,8 @@ pub planes-equal : PlanesEqual
 unfolding InRows
 planes-equal v l n i h below = same-plane (λ j. at l (rowPlace j i)) (λ j. at v (planeStart i + j)) (λ j. h i j below)
 
-pub same-planes : (v l : List Float) (n : ℕ) → InRows v n l → planesInRows l n ≡ planesOf v n
-same-planes v l n h = same-values (planeInRows l) (planeAt v) n (λ i below. planes-equal v l n i h below)
+planes-in : (v l : List Float) (n : ℕ) → InRows v n l → planesInRows l n ≡ planesOf v n
+planes-in v l n h = same-values (planeInRows l) (planeAt v) n (λ i below. planes-equal v l n i h below)
 
 -- ---- the verdicts
 
@@ -57,7 +59,7 @@ one-answer ps qs e = record {
 }
 
 pub verdicts-agree : VerdictsAgree
-verdicts-agree v l n h = one-answer (planesInRows l n) (planesOf v n) (same-planes v l n h)
+verdicts-agree v l n h = one-answer (planesInRows l n) (planesOf v n) (planes-in v l n h)
 
 pub beyond-unread : BeyondUnread
 beyond-unread l k n h =
@@ -90,8 +92,13 @@ module _ (l : List Float) (i : ℕ) (p : Plane) where
   abbrev with-z : List Float
   with-z = set with-y (rowPlace 2 i) (p .normal .z)
 
-  abbrev pub with-plane : List Float
-  with-plane = set with-z (rowPlace 3 i) (p .distance)
+  abbrev with-plane : List Float
+  with-plane = withPlane l i p
+
+  same-room : length with-plane ≡ length l
+  same-room =
+      length-set with-z (rowPlace 3 i) (p .distance) ∙ length-set with-y (rowPlace 2 i) (p .normal .z)
+      ∙ length-set with-x (rowPlace 1 i) (p .normal .y) ∙ length-set l i (p .normal .x)
 
   -- what stands elsewhere
   kept : (q : ℕ) → ((j : ℕ) → j < planeLength → q ≡ rowPlace j i → ⊥) → at with-plane q ≡ at l q
@@ -119,7 +126,7 @@ module _ (l : List Float) (i : ℕ) (p : Plane) where
         (omega (arith, length-set l i (p .normal .x), length-set with-x (rowPlace 1 i) (p .normal .y), length-set with-y (rowPlace 2 i) (p .normal .z)))
     own (suc (suc (suc (suc j)))) h = absurd (omega arith)
 
-    pub one-more : (v : List Float) → InRows v i l → p ≡ planeAt v i → InRows v (i + 1) with-plane
+    one-more : (v : List Float) → InRows v i l → p ≡ planeAt v i → InRows v (suc i) with-plane
     unfolding InRows
     one-more v h e k j below in-plane = ⊎-elim here before (eq-or-lt-of-le (omega arith))
       where
@@ -130,24 +137,47 @@ module _ (l : List Float) (i : ℕ) (p : Plane) where
         before : k < i → at with-plane (rowPlace j k) ≡ at v (planeStart k + j)
         before less = kept (rowPlace j k) (λ m four same. omega arith) ∙ h k j less in-plane
 
--- before the first plane
-pub nothing-held : (v l : List Float) → InRows v 0 l
-unfolding InRows
-nothing-held v l i j h = absurd (omega arith)
+-- ---- the first planes of a record
 
--- ---- what a record that holds n planes leaves
+module _ (v l : List Float) where
+  pub next-put : (i : ℕ) (k : List Float) (p : Plane) → k ≡ withPlanes v i l → p ≡ planeAt v i → withPlane k i p ≡ withPlanes v (i + 1) l
+  unfolding withPlanes
+  next-put i k p e f = (λ t. withPlane (e t) i (f t)) ∙ sym (ap (λ (n : ℕ). withPlanes v n l) (add-one i))
 
-module _ (n : ℕ) (v l : List Float) where
-  pub left-alone : (length l ≡ rowsLength → ⊥) → Loaded (result n) (has rowsLength l) v l l
-  left-alone e = subst (λ (room : Bool). Loaded (result n) room v l l) (sym (ne-eqb _ _ e)) refl
+  room-kept : (n : ℕ) → length (withPlanes v n l) ≡ length l
+  unfolding withPlanes
+  room-kept zero = refl
+  room-kept (suc n) = same-room (withPlanes v n l) n (planeAt v n) ∙ room-kept n
 
-  pub loaded : (k : List Float) → length l ≡ rowsLength → InRows v n k → Loaded (result n) (has rowsLength l) v l k
-  loaded k e h = subst (λ (room : Bool). Loaded (result n) room v l k) (sym (eq-eqb _ _ e)) h
+  module _ (room : length l ≡ rowsLength) where
+    in-rows : (n : ℕ) → n ≤ mostPlanes → InRows v n (withPlanes v n l)
+    unfolding InRows withPlanes
+    in-rows zero h = λ i j below. absurd (omega arith)
+    in-rows (suc n) h = one-more (withPlanes v n l) n (planeAt v n) (room-kept n ∙ room) (omega arith) v (in-rows n (omega arith)) refl
 
-  in-rows : (k : List Float) (o : Outcome ℕ) → result n ≡ o → length l ≡ rowsLength → Loaded o (has rowsLength l) v l k → InRows v n k
-  in-rows k o e f h = subst (λ (p : Outcome ℕ × Bool). Loaded (p .0) (p .1) v l k) (λ t. (sym e t, eq-eqb _ _ f t)) h
+    pub same-planes : (n : ℕ) (k : List Float) → n ≤ mostPlanes → k ≡ withPlanes v n l → planesInRows k n ≡ planesOf v n
+    same-planes n k h e = ap (λ (r : List Float). planesInRows r n) e ∙ planes-in v (withPlanes v n l) n (in-rows n h)
+
+  behind : (n i j : ℕ) → n ≤ i → i < mostPlanes → at (withPlanes v n l) (rowPlace j i) ≡ at l (rowPlace j i)
+  unfolding withPlanes
+  behind zero i j h most = refl
+  behind (suc n) i j h most = kept (withPlanes v n l) n (planeAt v n) (rowPlace j i) (λ m four same. omega arith) ∙ behind n i j (omega arith) most
+
+pub every-place : EveryPlace
+every-place v l n room most = (in-rows v l room n most, λ i j. behind v l n i j)
+
+-- ---- what a record leaves
+
+module _ (v l : List Float) (o : Outcome ℕ) where
+  pub kept-of-refused : (k : ℕ) → refused k ≡ o → l ≡ loaded o v l
+  kept-of-refused k e = ap (λ (x : Outcome ℕ). loaded x v l) e
+
+  pub by-room : (n : ℕ) (b : Bool) → result n ≡ o → has rowsLength l ≡ b → unless b l (withPlanes v n l) ≡ loaded o v l
+  by-room n b e f = sym (ap (λ (c : Bool). unless c l (withPlanes v n l)) f) ∙ ap (λ (x : Outcome ℕ). loaded x v l) e
 
 -- what is then read from rows that were all zeros before
-pub planes-held-in : (n : ℕ) (v k : List Float) (o : Outcome ℕ) → result n ≡ o
-    → (let l = replicate rowsLength (ofBits binary64 0) in Loaded o (has rowsLength l) v l k) → planesInRows k n ≡ planesOf v n
-planes-held-in n v k o e h = same-planes v k n (in-rows n v (replicate rowsLength (ofBits binary64 0)) k o e (length-replicate rowsLength (ofBits binary64 0)) h)
+pub planes-held-in : (n : ℕ) (v k : List Float) → result n ≡ planesHeld v → k ≡ loaded (planesHeld v) v (replicate rowsLength (ofBits binary64 0)) → planesInRows k n ≡ planesOf v n
+planes-held-in n v k e f =
+    let l = replicate rowsLength (ofBits binary64 0) in
+    let room = length-replicate rowsLength (ofBits binary64 0) in
+    same-planes v l room n k (held v n e .most) (f ∙ sym (by-room v l (planesHeld v) n true e (eq-eqb _ _ room)))

@@ -1,17 +1,23 @@
 -- What is claimed of planes held side by side, in rows: they are the planes of the record, and nothing else in the rows matters. Statements only.
-use Prim.Native.Nat.{ℕ, _<_}
+use Prim.Native.Nat.{ℕ, _≤_, _<_}
 use mathlib.Core.Path.{_≡_}
 use mathlib.Core.List.{List}
+use lib.ListN.{length}
 use lib.Ieee.{Float}
-use Rattle.number.specs.Limits.{planeLength}
+use Rattle.number.specs.Limits.{planeLength, mostPlanes}
 use Rattle.number.specs.Slice.{at}
 use Rattle.matrix.specs.declared.vec.Vec3d.{Vec3d}
 use Rattle.verdict.specs.declared.plane.Plane.{Plane}
 use Rattle.verdict.specs.declared.ray.Ray.{Ray}
 use Rattle.verdict.specs.declared.bbox.BBox3d.{BBox3d}
 use Rattle.verdict.specs.View.{planeAt, planesOf}
-use Rattle.verdict.specs.Rows.{rowPlace, InRows, planeInRows, planesInRows}
+use Rattle.verdict.specs.Rows.{rowsLength, rowPlace, InRows, withPlanes, planeInRows, planesInRows}
 use Rattle.verdict.specs.Frustum.{pointInView, segmentInView, triangleInView, boxInView}
+
+-- What a record of n planes leaves in rows: each number of these in its place, and in every place behind them what it held.
+abbrev pub EveryPlace : Type 0
+EveryPlace = (v l : List Float) (n : ℕ) → length l ≡ rowsLength → n ≤ mostPlanes
+    → InRows v n (withPlanes v n l) × ((i j : ℕ) → n ≤ i → i < mostPlanes → at (withPlanes v n l) (rowPlace j i) ≡ at l (rowPlace j i))
 
 -- "Prove that each plane read from the new layout equals the old one"
 abbrev pub PlanesEqual : Type 0

@@ -4,9 +4,8 @@ ghost use mathlib.Core.Path.{_≡_};
 ghost use Prim.Native.Nat.{_<_};
 ghost use lib.ListN.{length};
 ghost use Rattle.number.specs.Limits.{mostPlanes};
-ghost use Rattle.number.specs.Answer.{has};
 ghost use Rattle.verdict.specs.View.{heldOf, planesHeld};
-ghost use Rattle.verdict.specs.Rows.{rowsLength, planeInRows, InRows, Loaded};
+ghost use Rattle.verdict.specs.Rows.{rowsLength, planeInRows, withPlanes, loaded};
 ghost use Rattle.verdict.specs.Steps.Passes.{HasPlanes};
 use crate::plane::Plane;
 use crate::view::Held;
@@ -43,10 +42,10 @@ pub(crate) fn plane_in(rows: &Rows, i: u32) -> Plane
     }
 }
 
-// The first planes of a record, each to its place.
+// The first planes of a record, each to its place. What stands elsewhere is kept.
 pub(crate) fn gather(view: &[f64], count: u32, rows: &mut [f64])
     requires { ⌜ HasPlanes (now view) count × (length (now rows) ≡ rowsLength) ⌝ }
-    ensures { λ _. ⌜ InRows (now (view .entry)) count (now (rows .exit)) ⌝ }
+    ensures { λ _. ⌜ now (rows .exit) ≡ withPlanes (now (view .entry)) count (now (rows .entry)) ⌝ }
 {
     let mut i: u32 = 0;
     while i < count {
@@ -62,7 +61,7 @@ pub(crate) fn gather(view: &[f64], count: u32, rows: &mut [f64])
 
 // How many planes a record holds, by its count and its length, and these to their places. A record that is refused leaves the rows alone.
 pub fn load(volume: &[f64], rows: &mut [f64]) -> Held
-    ensures { λ r. ⌜ (heldOf r ≡ planesHeld (now (volume .entry))) × Loaded (heldOf r) (has rowsLength (now (rows .entry))) (now (volume .entry)) (now (rows .entry)) (now (rows .exit)) ⌝ }
+    ensures { λ r. ⌜ (heldOf r ≡ planesHeld (now (volume .entry))) × (now (rows .exit) ≡ loaded (planesHeld (now (volume .entry))) (now (volume .entry)) (now (rows .entry))) ⌝ }
 {
     match planes_held(volume) {
         Held::Planes(count) => {

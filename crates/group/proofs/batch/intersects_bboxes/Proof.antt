@@ -81,7 +81,7 @@ returns-6 c =
     let a = whole .before .before .before .before .before .args in
     let n = known .planes .given .0 .0 in
     let is = ap heldOf (sym (known .planes .given .1)) in
-    let planes = first-planes (planeInRows (counted .load .last .1 .0)) mostPlanes n (held _ _ (is ∙ counted .load .ensures .0) .most) ∙ planes-held-in n (a .volume .now) _ _ is (counted .load .ensures .1) in
+    let planes = first-planes (planeInRows (counted .load .last .1 .0)) mostPlanes n (held _ _ (is ∙ counted .load .ensures .0) .most) ∙ planes-held-in n (a .volume .now) _ (is ∙ counted .load .ensures .0) (counted .load .ensures .1) in
     answered _ _ _ (whole .before .if1 .left) (whole .if2 .left) _ (is ∙ counted .load .ensures .0) (room .if3 .left)
     _ (flags .all-flagged .ensures) (flagged .if4 .left) _ _ (first .all-finite .ensures) (second .all-finite2 .ensures) (finite .if5 .left) _
     (asked .answer .ensures ∙ ap₂ (λ (ps : List Plane) (k : ℕ). slotsBy ps (records k (a .boxes .now))) planes (room .if3 .left))

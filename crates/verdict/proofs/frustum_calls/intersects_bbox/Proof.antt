@@ -66,7 +66,7 @@ returns-4 c =
     answered _ _ _ _ _ (one-input 23 (a .bbox .now) ∙ eq-eqb _ _ (counted .before .before .if1 .left)) _ (ap heldOf (sym (known .count .given .1)) ∙ counted .load .ensures .0)
     (is-flag (a .bbox .now) _ _ (f .before .at .ensures) (f .is-flag .ensures) (e .if2 .left))
     (sym (next-record _ (first .all-numbers-finite .ensures) _ (last-record _ (second .all-finite .ensures))) ∙ not-false _ (g .if3 .left)) _
-    (c .of .ensures ∙ ap result (view .intersects-record .ensures ∙ ap (λ (ps : List Plane). boxInView ps (boxOf (a .bbox .now))) (planes-held-in (known .count .given .0 .0) (a .volume .now) _ _ (ap heldOf (sym (known .count .given .1))) (counted .load .ensures .1))))
+    (c .of .ensures ∙ ap result (view .intersects-record .ensures ∙ ap (λ (ps : List Plane). boxInView ps (boxOf (a .bbox .now))) (planes-held-in (known .count .given .0 .0) (a .volume .now) _ (ap heldOf (sym (known .count .given .1)) ∙ counted .load .ensures .0) (counted .load .ensures .1))))
     ∙ box-call (a .volume .now) (a .bbox .now)
 
 returns-5 : tie.Need-returns-5

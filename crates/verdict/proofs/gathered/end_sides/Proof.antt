@@ -15,8 +15,9 @@ returns : tie.Need-returns
 returns c =
     let first = c .before .before in
     let g = first .before .before .before in
-    let a = g .before .before .before .args in
-    let same = same-planes (a .view .now) _ (a .count) (g .gather .ensures) in
+    let start = g .before .before .before in
+    let a = start .args in
+    let same = same-planes (a .view .now) _ refl (a .count) _ (start .pre .0) (g .gather .ensures) in
     (first .sides-within .ensures ∙ ap (λ (ps : List Plane). sidesOf ps (a .a)) same, c .sides-within2 .ensures ∙ ap (λ (ps : List Plane). sidesOf ps (a .b)) same)
 
 pub end-sides-spec : {M : Type 1} → statement M

@@ -14,8 +14,9 @@ gather-requires c κs = (c .before .before .pre, refl)
 returns : tie.Need-returns
 returns c =
     let g = c .before .before .before in
-    let a = g .before .before .before .args in
-    c .sides-within .ensures ∙ ap (λ (ps : List Plane). sidesOf ps (a .p)) (same-planes (a .view .now) _ (a .count) (g .gather .ensures))
+    let start = g .before .before .before in
+    let a = start .args in
+    c .sides-within .ensures ∙ ap (λ (ps : List Plane). sidesOf ps (a .p)) (same-planes (a .view .now) _ refl (a .count) _ (start .pre .0) (g .gather .ensures))
 
 pub sides-spec : {M : Type 1} → statement M
 sides-spec = tie.close (tie.spec (λ c. search needs) gather-requires (λ c κs. c .before .before .before .before .before .pre .0) returns)

@@ -18,14 +18,15 @@ span-left-requires c κs =
     let g = c .before .before in
     let start = g .before .before .before in
     let a = start .args in
-    let same = sym (same-planes (a .view .now) _ (a .count) (g .gather .ensures)) in
+    let same = sym (same-planes (a .view .now) _ refl (a .count) _ (start .pre .0 .0) (g .gather .ensures)) in
     (start .pre .0 .0, start .pre .1 ∙ ap (λ (ps : List Plane). sidesOf ps (a .a)) same, start .pre .2 ∙ ap (λ (ps : List Plane). sidesOf ps (a .b)) same)
 
 returns : tie.Need-returns
 returns c =
     let g = c .before .before .before in
-    let a = g .before .before .before .args in
-    c .span-left .ensures ∙ ap (λ (ps : List Plane). spanLeft ps (a .a) (a .b) positiveZero one) (same-planes (a .view .now) _ (a .count) (g .gather .ensures))
+    let start = g .before .before .before in
+    let a = start .args in
+    c .span-left .ensures ∙ ap (λ (ps : List Plane). spanLeft ps (a .a) (a .b) positiveZero one) (same-planes (a .view .now) _ refl (a .count) _ (start .pre .0 .0) (g .gather .ensures))
 
 pub span-left-spec : {M : Type 1} → statement M
 span-left-spec = tie.close (tie.spec (λ c. search needs) gather-requires span-left-requires returns)

@@ -1,9 +1,11 @@
 -- `rows::load` meets its contract: what a record holds is gathered into a slice that has room for just that. Assumes nothing.
-use mathlib.Core.Path.{refl, sym, ap, _∙_}
+use mathlib.Core.Path.{sym, ap, _∙_}
+use mathlib.Core.Bool.{true, false}
 use borrow.Author.Needs.{needs}
+use borrow.Author.Tests.{eq-eqb, ne-eqb}
 use Rattle.verdict.specs.View.{heldOf}
 use Rattle.verdict.proofs.PlanesHeld.{held, has-planes}
-use Rattle.verdict.proofs.SideBySide.{left-alone, loaded}
+use Rattle.verdict.proofs.SideBySide.{kept-of-refused, by-room}
 use Rattle.verdict.proofs.rows.load.Statement.{statement}
 use Rattle.verdict.proofs.rows.load.Tie as tie
 
@@ -11,8 +13,8 @@ returns : tie.Need-returns
 returns c =
     let known = c .before .before in
     let counted = known .before .before in
-    let a = counted .before .before .before .args in
-    (ap heldOf (sym (known .count .given .1)) ∙ counted .planes-held .ensures, left-alone (known .count .given .0 .0) (a .volume .now) (a .rows .now) (c .if1 .taken))
+    let is = ap heldOf (sym (known .count .given .1)) ∙ counted .planes-held .ensures in
+    (is, by-room _ _ _ _ false is (ne-eqb _ _ (c .if1 .taken)))
 
 gather-requires : tie.Need-gather-requires
 gather-requires c κs =
@@ -26,15 +28,14 @@ returns-2 c =
     let room = gathered .before .before in
     let known = room .before .before in
     let counted = known .before .before in
-    let a = counted .before .before .before .args in (
-      ap heldOf (sym (known .count .given .1)) ∙ counted .planes-held .ensures,
-      loaded (known .count .given .0 .0) (a .volume .now) (a .rows .now) _ (room .if1 .left) (gathered .gather .ensures),
-    )
+    let is = ap heldOf (sym (known .count .given .1)) ∙ counted .planes-held .ensures in
+    (is, gathered .gather .ensures ∙ by-room _ _ _ _ true is (eq-eqb _ _ (room .if1 .left)))
 
 returns-3 : tie.Need-returns-3
 returns-3 c =
     let known = c .before in
-    (ap heldOf (sym (known .refusal .given .1)) ∙ known .before .before .planes-held .ensures, refl)
+    let is = ap heldOf (sym (known .refusal .given .1)) ∙ known .before .before .planes-held .ensures in
+    (is, kept-of-refused _ _ _ _ is)
 
 pub load-spec : {M : Type 1} → statement M
 load-spec = tie.close (tie.spec (λ c κs. search needs) (λ c. search needs) returns gather-requires (λ c. search needs) (λ c. search needs) returns-2 returns-3)
