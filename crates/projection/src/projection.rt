@@ -125,7 +125,7 @@ fn orthographic_of(m: Mat4d) -> ProjectionParams
     )
 }
 
-// Whether a number of a matrix is the one that a projection holds there. Nearly all are told by their difference alone: where that is at most the tolerance, both are
+// Whether a number of a matrix is close to the one that is built. Nearly all are told by their difference alone: where that is at most the tolerance, both are
 // finite, and their sizes do not matter.
 fn close(given: f64, built: f64) -> bool
     ensures { λ r. ⌜ r ≡ close given built ⌝ }
