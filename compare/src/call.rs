@@ -5,15 +5,12 @@ use crate::judge::{self, NO_PLACE};
 use crate::lent::{INPUTS, Input, Ins, Lent, Shape, Side, Single};
 use crate::op::{Op, Timed, Timing};
 use crate::trial::{Outcome, Trial};
-use crate::words::{self, Words};
-use std::hint::black_box;
+use crate::words::{self, Record};
 
 /// What is exported, with both sides of it. Written by `call!`.
 pub struct Exported {
     /// Its C name.
     pub name: &'static str,
-    /// Its code in the recorded answers.
-    pub code: u64,
     pub takes: &'static [Shape],
     pub gives: Shape,
     pub ours: Option<Box<dyn Side>>,
@@ -40,7 +37,7 @@ pub struct Call<I> {
     struck: bool,
     sets: Vec<Set<I>>,
     timed_against: Option<Box<dyn Side>>,
-    recorded: Option<fn() -> Vec<Words>>,
+    recorded: Option<fn() -> Vec<Record>>,
     #[cfg(test)]
     mended: Vec<I>,
 }
@@ -149,8 +146,8 @@ impl<I: Input> Call<I> {
     }
 
     /// Its answers are recorded in a form of their own.
-    pub fn recorded(mut self, vectors: fn() -> Vec<Words>) -> Self {
-        self.recorded = Some(vectors);
+    pub fn recorded(mut self, records: fn() -> Vec<Record>) -> Self {
+        self.recorded = Some(records);
         self
     }
 
@@ -392,24 +389,16 @@ impl<I: Input> Timed for Call<I> {
             let inputs = Timing::inputs(set.drawn).iter();
             let lent: &'static [Ins] =
                 inputs.map(|input| input.records().map(Lent::to_read)).collect::<Vec<_>>().leak();
-            let pass = |side: &'a dyn Side| {
-                let mut out = vec![0.0; self.of.gives.len()];
-                move || side.pass(black_box(lent), Lent::to_write(&mut out))
-            };
-            Timing { set: set.name, ours: Box::new(pass(ours.as_ref())), rust: Box::new(pass(rust.as_ref())) }
+            Timing::of(set.name, [(ours.as_ref(), lent), (rust.as_ref(), lent)], self.of.gives.len())
         };
         self.sets.iter().map(timing).collect()
     }
 }
 
 impl<I: Input> Op for Call<I> {
-    fn code(&self) -> u64 {
-        self.of.code
-    }
-
-    fn vectors(&self) -> Vec<Words> {
-        if let Some(vectors) = self.recorded {
-            return vectors();
+    fn records(&self) -> Vec<Record> {
+        if let Some(records) = self.recorded {
+            return records();
         }
         let answered = |input: I| {
             let mut desk = self.lay(input, self.right_lengths(&input));
@@ -422,13 +411,12 @@ impl<I: Input> Op for Call<I> {
                 Shape::Single => vec![words::plain(f64::from(Single::at(desk.numbers(i)[0])).to_bits())],
                 _ => desk.numbers(i).to_vec(),
             };
-            let given: Vec<u64> = self.of.takes.iter().enumerate().flat_map(given).collect();
-            let result: Vec<u64> = match (status, self.of.gives) {
-                (0, Shape::Verdict | Shape::Place) => vec![desk.word().into()],
-                (0, _) => desk.numbers(INPUTS).iter().map(|&bits| words::plain(bits)).collect(),
-                _ => vec![],
+            let given = self.of.takes.iter().enumerate().map(given).collect();
+            let left = match self.of.gives {
+                Shape::Verdict | Shape::Place => vec![desk.word().into()],
+                _ => desk.numbers(INPUTS).iter().map(|&bits| words::plain(bits)).collect(),
             };
-            words::record(&given, status, &result)
+            Record::new(given, status, left)
         };
         let drawn = |case| self.draw(case, &mut Rng::at(1, case));
         let kind = |&input: &I| {

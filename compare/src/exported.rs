@@ -27,8 +27,7 @@ macro_rules! taken {
     };
 }
 
-/// A call, by its code in the recorded answers, its C name, its parameters
-/// and its result: `gf_x(slice: length, ..; number: type) -> result { reference }`.
+/// A call, by its C name, its parameters and its result: `gf_x(slice: length, ..; number: type) -> result { reference }`.
 ///
 /// A slice's length is a number, or `Volume` where its count tells it. A lone
 /// number in is an `f64` or an `f32`. The result is `[f64; length]`
@@ -36,19 +35,19 @@ macro_rules! taken {
 /// for a place. The reference sees slices of the right lengths, as arrays, and
 /// gives the result or the number of a refusal.
 macro_rules! call {
-    ($code:literal $name:ident($($parameters:tt)*) -> [f64; $m:literal] $body:block) => {
-        call!(@ $code $name [$($parameters)*] [f64; $m] $body out (*mut f64, usize) (out.at, out.len))
+    ($name:ident($($parameters:tt)*) -> [f64; $m:literal] $body:block) => {
+        call!(@ $name [$($parameters)*] [f64; $m] $body out (*mut f64, usize) (out.at, out.len))
     };
-    ($code:literal $name:ident($($parameters:tt)*) -> f64 $body:block) => {
-        call!(@ $code $name [$($parameters)*] f64 $body out (*mut f64) (out.at))
+    ($name:ident($($parameters:tt)*) -> f64 $body:block) => {
+        call!(@ $name [$($parameters)*] f64 $body out (*mut f64) (out.at))
     };
-    ($code:literal $name:ident($($parameters:tt)*) -> bool $body:block) => {
-        call!(@ $code $name [$($parameters)*] bool $body out (*mut u32) (out.at.cast::<u32>()))
+    ($name:ident($($parameters:tt)*) -> bool $body:block) => {
+        call!(@ $name [$($parameters)*] bool $body out (*mut u32) (out.at.cast::<u32>()))
     };
-    ($code:literal $name:ident($($parameters:tt)*) -> u32 $body:block) => {
-        call!(@ $code $name [$($parameters)*] u32 $body out (*mut u32) (out.at.cast::<u32>()))
+    ($name:ident($($parameters:tt)*) -> u32 $body:block) => {
+        call!(@ $name [$($parameters)*] u32 $body out (*mut u32) (out.at.cast::<u32>()))
     };
-    (@ $code:literal $name:ident [$($in:ident: $n:tt),* $(; $number:ident: $lone:ty)?] $answer:ty $body:block
+    (@ $name:ident [$($in:ident: $n:tt),* $(; $number:ident: $lone:ty)?] $answer:ty $body:block
         $out:ident ($($c_type:ty),*) ($($c_argument:expr),*)) => {{
         use $crate::call::{Call, Exported};
         use $crate::lent::{Answer, Ins, Lent, Pointer, Side};
@@ -88,7 +87,6 @@ macro_rules! call {
         }));
         Call::<($($crate::exported::taken!($n),)* $(<$lone as $crate::lent::Lone>::Input,)?)>::new(Exported {
             name: stringify!($name),
-            code: $code,
             takes: &[$(<$crate::exported::taken!($n) as $crate::lent::Taken>::SHAPE,)* $(<$lone as $crate::lent::Lone>::SHAPE,)?],
             gives: <$answer as Answer>::SHAPE,
             ours,

@@ -47,6 +47,10 @@ impl Lent {
         Lent { at: numbers.as_mut_ptr(), len: numbers.len() }
     }
 
+    pub fn wholes(numbers: &[i32]) -> Lent {
+        Lent { at: numbers.as_ptr().cast_mut().cast(), len: numbers.len() }
+    }
+
     /// The inputs of a call, of which there are as many as records.
     pub fn all(records: &[&[f64]]) -> Ins {
         let mut ins = [Lent::NONE; INPUTS];
@@ -58,6 +62,15 @@ impl Lent {
 
     pub unsafe fn slice<'a>(self) -> &'a [f64] {
         unsafe { slice::from_raw_parts(self.at, self.len) }
+    }
+
+    pub unsafe fn whole_slice<'a>(self) -> &'a [i32] {
+        unsafe { slice::from_raw_parts(self.at.cast(), self.len) }
+    }
+
+    /// The first word of 32 bits.
+    pub unsafe fn word<'a>(self) -> &'a mut u32 {
+        unsafe { &mut *self.at.cast() }
     }
 
     /// Words of 32 bits, as many as it is long.
@@ -176,7 +189,7 @@ impl Answer for bool {
     const SHAPE: Shape = Shape::Verdict;
 
     unsafe fn lent<'a>(lent: Lent) -> &'a mut u32 {
-        unsafe { &mut *lent.at.cast() }
+        unsafe { lent.word() }
     }
 
     fn fits(_: &u32) -> bool {
@@ -194,7 +207,7 @@ impl Answer for u32 {
     const SHAPE: Shape = Shape::Place;
 
     unsafe fn lent<'a>(lent: Lent) -> &'a mut u32 {
-        unsafe { &mut *lent.at.cast() }
+        unsafe { lent.word() }
     }
 
     fn fits(_: &u32) -> bool {

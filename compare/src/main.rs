@@ -13,6 +13,7 @@
 
 mod bench;
 mod call;
+mod desk;
 mod exact;
 mod exported;
 mod farm;

@@ -1,24 +1,59 @@
-//! Recorded answers, for the program that replays them: words of eight bytes,
-//! the low byte first. README.md has their form.
+//! Recorded answers, for the program that replays them. README.md has their
+//! form.
 
 use crate::op::Op;
 use crate::{inputs, reader};
 use std::io::{self, Write};
-use std::iter;
 
-/// Writes the vectors of all operations, and tells how many there are.
+/// The operations of each family. An operation's code is the number of its
+/// family and its place there, both from 1.
+#[rustfmt::skip]
+const FAMILIES: [&[&str]; 11] = [
+    &["sqrt", "abs", "min", "max", "narrow", "widen", "grid"],
+    &[
+        "product", "transpose", "inverse", "transform", "transform_affine", "transform_dir", "transform_homogeneous",
+        "determinant3", "is_right_handed",
+    ],
+    &[
+        "range_is_empty", "range_union", "range_intersection", "range_midpoint", "range_distance_squared",
+        "range_transformed", "range_corners",
+    ],
+    &["bbox_combine", "bbox_transform", "bbox_volume", "bbox_aligned_range", "bbox_centroid", "bbox_combine_group"],
+    &[
+        "plane_new", "plane_from_points", "plane_from_equation", "plane_distance", "plane_on_positive_side",
+        "plane_transformed",
+    ],
+    &["ray_point", "ray_transformed", "ray_intersect_plane", "ray_intersect_triangle"],
+    &["projection_matrix", "projection_from_matrix", "camera_set_from_view_and_projection"],
+    &[
+        "intersects_point", "intersects_segment", "intersects_triangle", "intersects_bbox", "intersects_view_volume",
+        "exact_bbox",
+    ],
+    &["whole_intersects_segment", "whole_intersects_bbox"],
+    &["range_nearest", "blocking_plane", "blocking_planes"],
+    &["range_within", "intersects_bboxes", "rays_intersect_triangle"],
+];
+
+/// In the place of a family: a name follows.
+const NAME: u8 = 255;
+
+/// Writes the records of all operations, each operation's with its name behind
+/// them, and tells how many there are.
 pub fn write(ops: &[Box<dyn Op>], to: &mut dyn Write) -> io::Result<usize> {
-    let mut vectors = 0;
-    for op in ops {
-        for words in op.vectors() {
-            for word in iter::once(op.code()).chain(words) {
-                to.write_all(&word.to_le_bytes())?;
+    let mut written = 0;
+    for (family, names) in (1..).zip(FAMILIES) {
+        for (place, name) in (1..).zip(names) {
+            let op = ops.iter().find(|op| op.name() == *name).expect("there is one");
+            for record in op.records() {
+                to.write_all(&record.bytes([family, place]))?;
+                written += 1;
             }
-            vectors += 1;
+            to.write_all(&[NAME, name.len() as u8, 0, 0, 0, 0, 0, 0])?;
+            to.write_all(name.as_bytes())?;
         }
     }
     to.flush()?;
-    Ok(vectors)
+    Ok(written)
 }
 
 /// Writes the notable farm files, each after its size, and what is to be
@@ -55,40 +90,44 @@ mod tests {
     use std::path::{Path, PathBuf};
     use std::process::Command;
 
+    #[test]
+    fn each_function_has_a_code_of_its_own() {
+        let mut names: Vec<&str> = ops::all().iter().map(|op| op.name()).collect();
+        let mut coded = FAMILIES.concat();
+        (names.sort_unstable(), coded.sort_unstable());
+        assert_eq!(names, coded);
+    }
+
     /// Of each call every status that it has, and both a yes and a no.
     #[test]
     fn every_outcome_is_recorded() {
         for op in ops::all() {
-            let seen: BTreeSet<(u64, Option<u64>)> = (op.vectors().iter())
-                .map(|words| {
-                    let at = 1 + words[0] as usize;
-                    let verdict = words[at + 1] == 1 && words[at + 2] < 2;
-                    (words[at], verdict.then(|| words[at + 2]))
-                })
-                .collect();
-            let statuses: BTreeSet<u64> = seen.iter().map(|&(status, _)| status).collect();
-            let refusals: &[u64] = match op.code() {
-                7 => &[7],
-                201..=205 | 216 => &[3],
-                218..=220 => &[1, 12, 13],
-                221 | 231 => &[1, 3, 12, 13],
-                222 => &[3, 13],
-                103 | 211 => &[4],
-                214 | 215 => &[5],
-                217 => &[6],
-                223 => &[4, 6, 8],
-                224 => &[3, 11],
-                225 | 226 | 230 => &[1],
-                227 => &[1, 7, 12],
-                228 => &[1, 3, 12, 13],
-                229 => &[1, 12, 13, 14],
-                232 => &[1, 7, 12],
-                233 => &[1, 3, 7, 12, 13],
+            let records = op.records();
+            let statuses: BTreeSet<u32> = records.iter().map(|record| record.status).collect();
+            let refusals: &[u32] = match op.name() {
+                "bbox_combine_group" => &[3, 11],
+                "grid" => &[7],
+                name if name.starts_with("bbox_") => &[3],
+                "projection_matrix" => &[3],
+                "intersects_point" | "intersects_segment" | "intersects_triangle" => &[1, 12, 13],
+                "intersects_bbox" | "blocking_planes" | "intersects_bboxes" => &[1, 3, 12, 13],
+                "intersects_view_volume" => &[3, 13],
+                "inverse" | "plane_transformed" => &[4],
+                "ray_intersect_plane" | "ray_intersect_triangle" => &[5],
+                "projection_from_matrix" => &[6],
+                "camera_set_from_view_and_projection" => &[4, 6, 8],
+                "range_nearest" | "range_within" | "rays_intersect_triangle" => &[1],
+                "whole_intersects_segment" | "whole_intersects_bbox" => &[1, 7, 12],
+                "blocking_plane" => &[1, 12, 13, 14],
+                "exact_bbox" => &[1, 3, 7, 12, 13],
                 _ => &[],
             };
             assert_eq!(statuses, refusals.iter().copied().chain([0]).collect(), "{}", op.name());
-            if matches!(op.code(), 109 | 110 | 210 | 218..=222 | 227 | 232 | 233) {
-                assert!(seen.contains(&(0, Some(0))) && seen.contains(&(0, Some(1))), "{}", op.name());
+            let is_verdict = ["is_right_handed", "range_is_empty", "plane_on_positive_side", "exact_bbox"];
+            let lists = op.name() == "intersects_bboxes";
+            if is_verdict.contains(&op.name()) || !lists && op.name().contains("intersects_") {
+                let answers: BTreeSet<&[u64]> = records.iter().map(|record| &record.result[..]).collect();
+                assert!([[0], [1]].iter().all(|word| answers.contains(&word[..])), "{}", op.name());
             }
         }
     }
@@ -96,12 +135,12 @@ mod tests {
     /// A place and none, of the nearest, of a list and of a hidden segment.
     #[test]
     fn a_place_and_none_are_recorded() {
-        for (code, none) in [(225, u64::from(NO_PLACE)), (226, 0), (229, u64::from(NO_PLACE))] {
-            let op = ops::all().into_iter().find(|op| op.code() == code).expect("there is one");
-            let vectors = op.vectors();
-            let answered = vectors.iter().map(|words| &words[1 + words[0] as usize..]).filter(|words| words[0] == 0);
-            let (nothing, places): (Vec<_>, Vec<_>) = answered.partition(|words| words[2] == none);
-            assert!(nothing.len() >= 5 && places.len() >= 20, "{}", op.name());
+        let no_place = u64::from(NO_PLACE);
+        for (name, none) in [("range_nearest", no_place), ("range_within", 0), ("blocking_plane", no_place)] {
+            let records = ops::all().iter().find(|op| op.name() == name).expect("there is one").records();
+            let answered = records.iter().filter(|record| record.status == 0);
+            let (nothing, places): (Vec<_>, Vec<_>) = answered.partition(|record| record.result[0] == none);
+            assert!(nothing.len() >= 5 && places.len() >= 20, "{name}");
         }
     }
 

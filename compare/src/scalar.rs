@@ -4,7 +4,7 @@ use crate::inputs::{Draw, Rng};
 use crate::lent::Side;
 use crate::op::{Op, Timed, Timing};
 use crate::trial::{Outcome, Trial};
-use crate::words::{self, Words, shown, shown_narrow};
+use crate::words::{self, Record, shown, shown_narrow};
 use std::hint::black_box;
 use std::num::FpCategory;
 
@@ -103,8 +103,6 @@ impl Function {
 /// or both are NaN: IEEE 754 and paper 01 fix the signs of these zeros.
 pub struct Scalar {
     pub name: &'static str,
-    /// Its code in the recorded answers.
-    pub code: u64,
     pub ours: Option<Function>,
     pub rust: Function,
     /// What is expected of an input to which the Rust answers this.
@@ -125,11 +123,11 @@ pub struct Scalar {
 
 impl Scalar {
     /// A function of which the Rust's answers are expected, with no inputs.
-    pub fn new(name: &'static str, code: u64, ours: Option<Function>, rust: Function) -> Self {
+    pub fn new(name: &'static str, ours: Option<Function>, rust: Function) -> Self {
         let (notable, more, systematic, sets) = (vec![], vec![], vec![], vec![]);
         let drawn = |_, _: &mut Rng| unreachable!("no inputs are given");
         let expected = |_, rust| rust;
-        Scalar { name, code, ours, rust, expected, notable, more, systematic, drawn, every: None, sets }
+        Scalar { name, ours, rust, expected, notable, more, systematic, drawn, every: None, sets }
     }
 
     #[inline]
@@ -214,15 +212,12 @@ impl Timed for Scalar {
 }
 
 impl Op for Scalar {
-    fn code(&self) -> u64 {
-        self.code
-    }
-
-    fn vectors(&self) -> Vec<Words> {
+    fn records(&self) -> Vec<Record> {
         let drawn = (0..).map(|case| (self.drawn)(case, &mut Rng::at(1, case)));
         let inputs = self.notable.iter().copied().chain(drawn).take(words::NUMBERS).chain(self.more.iter().copied());
         let answer = |input| self.rust.plain(self.judge(input));
-        inputs.map(|input| words::record(self.rust.takes(&input), 0, &[answer(input)])).collect()
+        let given = |input| self.rust.takes(&input).iter().map(|&word| vec![word]).collect();
+        inputs.map(|input| Record::new(given(input), 0, vec![answer(input)])).collect()
     }
 
     fn sides(&self) -> Option<[Option<&dyn Side>; 2]> {

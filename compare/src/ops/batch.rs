@@ -3,22 +3,20 @@
 #[cfg(test)]
 mod slips;
 
+use crate::desk::{Both, Desk, Laid, seen};
 use crate::exported::of_archive;
 use crate::inputs::{
-    self, Boxed, CUBE, IDENTITY, Matrix, NO_FLAGS, Range, Rng, TOO_MANY, Volume, box_of, diagonal, mixed,
-    volume_length, with,
+    self, Boxed, CUBE, IDENTITY, Matrix, NO_FLAGS, Range, Rng, TOO_MANY, Volume, box_of, diagonal, volume_length, with,
 };
 use crate::judge::{FEWEST_PLANES, MOST_PLANES, WRONG_INPUT, WRONG_OUTPUT, finite};
 use crate::lent::{Ins, Lent, Pointer, Side};
-use crate::op::{Op, Timed, Timing};
+use crate::op::{Op, Timing};
 use crate::rust::{ask, boxed, boxed_without_inverse, count_by_length, held};
-use crate::trial::{Outcome, Trial};
-use crate::words::{self, Words};
+use crate::words::{self, ROOM};
 use openusd::gf::BBox3d;
-use std::hint::black_box;
 
 pub fn all() -> Vec<Box<dyn Op>> {
-    vec![Box::new(Batch::of_archive())]
+    vec![Box::new(of_archive())]
 }
 
 /// The numbers of a box.
@@ -94,73 +92,32 @@ fn rust_side(f: Rust) -> Box<dyn Side> {
     }))
 }
 
-/// Both sides, what ours is timed against, and what is always tried.
+/// What ours is timed against, and how many of the fixed ones are recorded, should
+/// they be fit for it: those in front.
 struct Batch {
-    ours: Option<Box<dyn Side>>,
-    judge: Box<dyn Side>,
     untested: Box<dyn Side>,
     tested: Box<dyn Side>,
-    /// Those in front are recorded, should they be fit for it.
-    fixed: Vec<Given>,
     recorded: usize,
 }
 
 // What is lent is as long as it says, and is not lent twice.
-impl Batch {
-    fn of_archive() -> Batch {
-        let ours: Option<Ours> = of_archive!(
-            gf_intersects_bboxes: fn(_: *const f64, _: usize, _: *const f64, _: usize, _: *mut u32, _: usize) -> u32
-        );
-        Batch::of(ours.map(|f| -> Box<dyn Side> {
-            Box::new(Pointer(f, |f: Ours, &[volume, boxes, ..]: &Ins, out: Lent| unsafe {
-                f(volume.at.cast_const(), volume.len, boxes.at.cast_const(), boxes.len, out.at.cast(), out.len)
-            }))
+fn of_archive() -> Both<Batch> {
+    let ours: Option<Ours> = of_archive!(
+        gf_intersects_bboxes: fn(_: *const f64, _: usize, _: *const f64, _: usize, _: *mut u32, _: usize) -> u32
+    );
+    by(ours.map(|f| -> Box<dyn Side> {
+        Box::new(Pointer(f, |f: Ours, &[volume, boxes, ..]: &Ins, out: Lent| unsafe {
+            f(volume.at.cast_const(), volume.len, boxes.at.cast_const(), boxes.len, out.at.cast(), out.len)
         }))
-    }
-
-    fn of(ours: Option<Box<dyn Side>>) -> Batch {
-        let mut fixed = fixed();
-        let recorded = fixed.len();
-        fixed.extend(missing());
-        let [judge, untested, tested] = [judge as Rust, untested, tested].map(rust_side);
-        Batch { ours, judge, untested, tested, fixed, recorded }
-    }
-
-    fn given(&self, case: u64, rng: &mut Rng) -> Given {
-        match self.fixed.get(case as usize) {
-            Some(given) => given.clone(),
-            None => drawn(rng),
-        }
-    }
-
-    /// Puts one case to both sides: for the judge and ours what was answered
-    /// and all that is left.
-    fn make(&self, case: u64, mut rng: Rng) -> (Given, [(u32, Desk); 2]) {
-        let given = self.given(case, &mut rng);
-        let before = Desk::new(&given);
-        let made = [Some(&self.judge), self.ours.as_ref()].map(|side| {
-            let mut desk = before.clone();
-            let status = desk.put_to(side.expect("exported").as_ref());
-            (status, desk)
-        });
-        (given, made)
-    }
-
-    /// What the judge answers, and what it leaves.
-    fn judged(&self, given: &Given) -> (u32, Desk) {
-        let mut desk = Desk::new(given);
-        let status = desk.put_to(self.judge.as_ref());
-        (status, desk)
-    }
+    }))
 }
 
-/// A yes is a box in view.
-fn outcome(status: u32, desk: &Desk) -> usize {
-    match status {
-        0 if desk.slots().contains(&1) => Outcome::YES,
-        0 => Outcome::NO,
-        _ => status as usize,
-    }
+fn by(ours: Option<Box<dyn Side>>) -> Both<Batch> {
+    let mut fixed = fixed();
+    let recorded = fixed.len();
+    fixed.extend(missing());
+    let [judge, untested, tested] = [judge as Rust, untested, tested].map(rust_side);
+    Both { of: Batch { untested, tested, recorded }, ours, judge, fixed }
 }
 
 /// What a call is given: numbers of any count, and so many slots.
@@ -192,18 +149,15 @@ impl Given {
         self
     }
 
-    /// How many boxes a replay takes this to have, if it can be recorded: from
-    /// none to three, by what is over when all numbers are counted in fours. A
-    /// volume has one over, of any number of planes, and each box has one less.
-    fn boxes_recorded(&self) -> Option<usize> {
-        let (numbers, boxes) = (self.volume.len() + self.boxes.len(), self.slots);
-        let told = (boxes + numbers) % 4 == 1 && boxes < 4 && self.boxes.len() == BOX * boxes;
-        (told && self.volume.len() >= volume_length(FEWEST_PLANES) && numbers <= WORDS).then_some(boxes)
+    /// Whether it can be recorded: at most three boxes and their slots, and a
+    /// volume of any number of planes.
+    fn is_recorded(&self) -> bool {
+        let volume = self.volume.len();
+        let planes = volume % 4 == 1 && volume >= volume_length(FEWEST_PLANES);
+        let boxes = self.slots < 4 && self.boxes.len() == BOX * self.slots;
+        planes && boxes && volume + self.boxes.len() <= ROOM
     }
 }
-
-/// The most words of a record's input.
-const WORDS: usize = 192;
 
 const UNIT: Range = [0.0, 0.0, 0.0, 1.0, 1.0, 1.0];
 const NAN: f64 = f64::NAN;
@@ -421,90 +375,6 @@ fn drawn(rng: &mut Rng) -> Given {
     }
 }
 
-/// What a call is lent, and beside it what nobody may write.
-#[derive(Clone, PartialEq)]
-struct Desk {
-    /// The volume, the boxes.
-    numbers: Vec<u64>,
-    slots: Vec<u32>,
-    len: [usize; 3],
-}
-
-/// How much is beside each; an odd number, so that a u32 lies at any
-/// alignment that it may.
-const GUARD: usize = 5;
-
-impl Desk {
-    fn new(given: &Given) -> Desk {
-        let len = [given.volume.len(), given.boxes.len(), given.slots];
-        let mut desk = Desk {
-            numbers: (0..(len[0] + len[1] + 3 * GUARD) as u64).map(mixed).collect(),
-            slots: (0..(len[2] + 2 * GUARD) as u64).map(|i| mixed(!i) as u32).collect(),
-            len,
-        };
-        for (at, numbers) in [(GUARD, &given.volume), (desk.boxes_at(), &given.boxes)] {
-            for (word, number) in desk.numbers[at..].iter_mut().zip(numbers) {
-                *word = number.to_bits();
-            }
-        }
-        desk
-    }
-
-    fn boxes_at(&self) -> usize {
-        2 * GUARD + self.len[0]
-    }
-
-    fn put_to(&mut self, side: &dyn Side) -> u32 {
-        let boxes_at = self.boxes_at();
-        let numbers = self.numbers.as_mut_ptr().cast::<f64>();
-        let lent = |at: usize, len: usize| Lent { at: numbers.wrapping_add(at), len };
-        let ins = [lent(GUARD, self.len[0]), lent(boxes_at, self.len[1]), Lent::NONE, Lent::NONE];
-        side.call(&ins, Lent { at: self.slots.as_mut_ptr().wrapping_add(GUARD).cast(), len: self.len[2] })
-    }
-
-    fn slots(&self) -> &[u32] {
-        &self.slots[GUARD..][..self.len[2]]
-    }
-}
-
-impl Trial for Batch {
-    fn name(&self) -> &'static str {
-        "intersects_bboxes"
-    }
-
-    fn note(&self) -> Option<&str> {
-        self.ours.is_none().then_some("not exported yet")
-    }
-
-    fn cases(&self, count: u64) -> u64 {
-        if self.ours.is_none() { 0 } else { count.max(self.fixed.len() as u64) }
-    }
-
-    /// All is to agree bit for bit.
-    fn agree(&self, case: u64, rng: Rng) -> Option<usize> {
-        let (_, [(judge, expected), (ours, desk)]) = self.make(case, rng);
-        (judge == ours && desk == expected).then(|| outcome(judge, &expected))
-    }
-
-    fn describe(&self, case: u64, rng: Rng) -> String {
-        let (given, [(judge, expected), (ours, desk)]) = self.make(case, rng);
-        let list = |numbers: &[f64]| {
-            numbers.iter().map(|number| words::shown(number.to_bits())).collect::<Vec<String>>().join(", ")
-        };
-        let Given { volume, boxes, slots } = &given;
-        let mut text = format!("{}([{}], {} numbers; {slots} slots)", self.name(), list(volume), boxes.len());
-        for (i, record) in boxes.chunks(BOX).enumerate() {
-            text += &format!("\n      {i} [{}]", list(record));
-        }
-        text += &format!("\n      judge {judge} {:?}", expected.slots());
-        text += &format!("\n      ours  {ours} {:?}", desk.slots());
-        if desk.numbers != expected.numbers {
-            text += "\n      an input, or a number beside one, was written";
-        }
-        text
-    }
-}
-
 /// Batches of so many boxes, as many boxes in all as a pass has calls
 /// elsewhere; the last batch has what is left.
 fn timed(planes: usize, count: usize, placement: fn(&mut Rng) -> Matrix) -> &'static [(Ins, Lent)] {
@@ -519,22 +389,51 @@ fn timed(planes: usize, count: usize, placement: fn(&mut Rng) -> Matrix) -> &'st
     sizes.enumerate().map(batch).collect::<Vec<_>>().leak()
 }
 
-impl Timed for Batch {
+impl Laid for Batch {
+    type Given = Given;
+    type Side = dyn Side;
+
+    fn name(&self) -> &'static str {
+        "intersects_bboxes"
+    }
+
+    fn drawn(rng: &mut Rng) -> Given {
+        drawn(rng)
+    }
+
+    fn lay(given: &Given) -> Desk {
+        Desk::new().numbers(&given.volume).numbers(&given.boxes).slots(given.slots)
+    }
+
+    fn put(desk: &mut Desk, side: &dyn Side) -> u32 {
+        let ins = [desk.numbers.lent(0), desk.numbers.lent(1), Lent::NONE, Lent::NONE];
+        side.call(&ins, desk.words.lent(0))
+    }
+
+    /// A yes is a box in view.
+    fn outcome(&self, status: u32, desk: &Desk) -> usize {
+        seen(status, desk.words.slice(0).contains(&1))
+    }
+
+    fn shown(&self, given: &Given, judge: (u32, &Desk), ours: (u32, &Desk)) -> String {
+        let Given { volume, boxes, slots } = given;
+        let mut text = format!("([{}], {} numbers; {slots} slots)", words::list(volume), boxes.len());
+        for (i, record) in boxes.chunks(BOX).enumerate() {
+            text += &format!("\n      {i} [{}]", words::list(record));
+        }
+        text += &format!("\n      judge {} {:?}", judge.0, judge.1.words.slice(0));
+        text + &format!("\n      ours  {} {:?}", ours.0, ours.1.words.slice(0))
+    }
+
     /// The time is of one box.
-    fn timings<'a>(&'a self) -> Vec<Timing<'a>> {
-        let Some(ours) = &self.ours else {
+    fn timings(of: &Both<Batch>) -> Vec<Timing<'_>> {
+        let Some(ours) = &of.ours else {
             return vec![];
-        };
-        let pass = |side: &'a dyn Side, batches: &'static [(Ins, Lent)]| {
-            Box::new(move || {
-                batches.iter().for_each(|(ins, out)| side.pass(black_box(std::slice::from_ref(ins)), *out))
-            })
         };
         let timing =
             |(set, planes, count, placement, tests): (&'static str, usize, usize, fn(&mut Rng) -> Matrix, bool)| {
-                let batches = timed(planes, count, placement);
-                let rust = if tests { &self.tested } else { &self.untested };
-                Timing { set, ours: pass(ours.as_ref(), batches), rust: pass(rust.as_ref(), batches) }
+                let rust = if tests { &of.of.tested } else { &of.of.untested };
+                Timing::with_rooms(set, [ours.as_ref(), rust.as_ref()], timed(planes, count, placement))
             };
         let (few, most) = (FEWEST_PLANES, MOST_PLANES);
         let (rigid, scaled): (fn(&mut Rng) -> Matrix, fn(&mut Rng) -> Matrix) =
@@ -551,50 +450,37 @@ impl Timed for Batch {
         ];
         sets.map(timing).into()
     }
-}
-
-impl Op for Batch {
-    fn code(&self) -> u64 {
-        228
-    }
 
     /// The fixed ones of at most three boxes, and drawn ones. A replay tries
     /// slots one less and one more where there are two or more, which is
     /// behind a wrong length; so that of these one box alone is recorded.
-    fn vectors(&self) -> Vec<Words> {
-        let fits = |given: &Given| given.boxes_recorded().is_some_and(|n| n < 2 || self.judged(given).0 != WRONG_INPUT);
-        let struck = self.fixed[self.recorded..].iter().step_by(STEP);
-        let fixed = self.fixed[..self.recorded].iter().chain(struck).cloned().filter(fits);
+    fn recorded(of: &Both<Batch>) -> Vec<Given> {
+        let fits = |given: &Given| given.is_recorded() && (given.slots < 2 || of.judged(given).0 != WRONG_INPUT);
+        let (fixed, struck) = of.fixed.split_at(of.of.recorded);
+        let fixed = fixed.iter().chain(struck.iter().step_by(STEP)).cloned().filter(fits);
         let drawn = (0..).map(|case| drawn(&mut Rng::at(1, case))).filter(fits).take(RECORDED);
-        let recorded = |given: Given| {
-            let (status, desk) = self.judged(&given);
-            let inputs: Vec<u64> = given.volume.iter().chain(&given.boxes).map(|number| number.to_bits()).collect();
-            let slots: Vec<u64> = desk.slots().iter().map(|&slot| slot.into()).collect();
-            words::record(&inputs, status, if status == 0 { &slots } else { &[] })
-        };
-        let mut once: Vec<Words> = vec![];
-        for words in fixed.chain(drawn).map(recorded) {
-            if !once.contains(&words) {
-                once.push(words);
-            }
-        }
-        once
+        fixed.chain(drawn).collect()
     }
 
-    fn sides(&self) -> Option<[Option<&dyn Side>; 2]> {
-        Some([Some(self.judge.as_ref()), self.ours.as_deref()])
+    fn words(&self, _: &Given, desk: &Desk) -> (Vec<Vec<u64>>, Vec<u64>) {
+        let given = [0, 1].map(|i| desk.numbers.slice(i).to_vec()).to_vec();
+        (given, desk.words.slice(0).iter().map(|&slot| slot.into()).collect())
     }
 
+    fn sides(of: &Both<Batch>) -> [Option<&dyn Side>; 2] {
+        [Some(of.judge.as_ref()), of.ours.as_deref()]
+    }
+
+    /// No volume and no boxes; no count; another length; no slots; no flag; a
+    /// number that is missing.
     #[cfg(test)]
-    fn refusals(&self) -> Vec<u32> {
+    fn mended() -> Vec<Given> {
         let [touching, ..] = kinds().map(|(b, _)| b);
         let given = |count: f64, flag: f64, number: f64| {
             let boxes = [touching, with(touching, &[(0, number), (22, flag)])];
             Given::of(&Volume::of(CUBE).counted(count), &boxes)
         };
-        // No volume and no boxes; no count; another length; no slots; no flag; a
-        // number that is missing.
-        let mended = [
+        vec![
             given(5.0, 0.5, NAN).cut(48, BOX + 1, 1),
             given(5.0, 0.5, NAN).cut(53, 2 * BOX, 1),
             given(6.0, 0.5, NAN).cut(53, 2 * BOX, 1),
@@ -602,14 +488,7 @@ impl Op for Batch {
             given(6.0, 0.5, NAN),
             given(6.0, 1.0, NAN),
             given(6.0, 1.0, 1.0),
-        ];
-        let mut answers: Vec<u32> = mended.iter().map(|given| self.judged(given).0).collect();
-        assert_eq!(answers.pop(), Some(0), "the last has no fault");
-        for case in 0..20_000 {
-            let status = self.judged(&self.given(case, &mut Rng::at(1, case))).0;
-            assert!(status == 0 || answers.contains(&status), "{}: {status} is not met", self.name());
-        }
-        answers
+        ]
     }
 }
 

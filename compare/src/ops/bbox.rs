@@ -76,7 +76,7 @@ fn combine() -> Box<dyn Op> {
     let rolled = [0.0, 0.0, 1.0, 0.0, 1.0, 0.0, 0.0, 0.0, 0.0, 1.0, 0.0, 0.0, 0.0, 0.0, 0.0, 1.0];
     pairs.extend([(point, box_of(long, rolled, 0.0)), (box_of(long, rolled, 0.0), point)]);
     pairs.extend([(box_of([0.0, 0.0, 0.0, 1e155, 1e155, 1.0], IDENTITY, 0.0), box_of(long, rolled, 0.0))]);
-    call!(201 gf_bbox_combine(a: 23, b: 23) -> [f64; 23] {
+    call!(gf_bbox_combine(a: 23, b: 23) -> [f64; 23] {
         let (a, b) = (boxed(a)?, boxed(b)?);
         Ok(of_box(openusd::gf::BBox3d::combine(&a, &b)))
     })
@@ -92,7 +92,7 @@ fn combine() -> Box<dyn Op> {
 fn transform() -> Box<dyn Op> {
     let fixed = fixed().into_iter().map(|b| (b, TURNED));
     let more = [(box_of(UNIT, TURNED, 0.0), [NAN; 16]), (box_of(UNIT, TURNED, 1.0), diagonal([1e-14, 1.0, 1.0, 1.0]))];
-    call!(202 gf_bbox_transform(b: 23, m: 16) -> [f64; 23] {
+    call!(gf_bbox_transform(b: 23, m: 16) -> [f64; 23] {
         let mut placed = boxed_without_inverse(b)?;
         placed.transform(matrix(m));
         Ok(of_box(placed))
@@ -104,7 +104,7 @@ fn transform() -> Box<dyn Op> {
 }
 
 fn volume() -> Box<dyn Op> {
-    call!(203 gf_bbox_volume(b: 23) -> f64 { Ok(boxed_without_inverse(b)?.volume()) })
+    call!(gf_bbox_volume(b: 23) -> f64 { Ok(boxed_without_inverse(b)?.volume()) })
         .fixed(fixed().into_iter().map(|b| (b,)).collect())
         .drawn(|_, rng| (inputs::boxed(rng),))
         .timed("placed", |_, rng| (inputs::ordinary_box(rng),))
@@ -113,8 +113,8 @@ fn volume() -> Box<dyn Op> {
 
 fn aligned_range() -> Box<dyn Op> {
     let rust =
-        call!(204 gf_bbox_aligned_range(b: 23) -> [f64; 6] { Ok(of_range(boxed_without_inverse(b)?.aligned_range())) });
-    call!(204 gf_bbox_aligned_range(b: 23) -> [f64; 6] {
+        call!(gf_bbox_aligned_range(b: 23) -> [f64; 6] { Ok(of_range(boxed_without_inverse(b)?.aligned_range())) });
+    call!(gf_bbox_aligned_range(b: 23) -> [f64; 6] {
         boxed_without_inverse(b)?;
         Ok(signs::transformed(b.first_chunk().expect("a range"), b[6..].first_chunk().expect("a matrix")))
     })
@@ -127,7 +127,7 @@ fn aligned_range() -> Box<dyn Op> {
 }
 
 fn centroid() -> Box<dyn Op> {
-    call!(205 gf_bbox_centroid(b: 23) -> [f64; 3] { Ok(boxed_without_inverse(b)?.centroid().into()) })
+    call!(gf_bbox_centroid(b: 23) -> [f64; 3] { Ok(boxed_without_inverse(b)?.centroid().into()) })
         .fixed(fixed().into_iter().map(|b| (b,)).collect())
         .drawn(|_, rng| (inputs::boxed(rng),))
         .timed("placed", |_, rng| (inputs::ordinary_box(rng),))

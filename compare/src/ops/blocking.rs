@@ -255,11 +255,11 @@ fn of_segment() -> Call<Asked> {
     mended_segments.extend([seen, hidden].map(|(a, b)| (Volume::of(CUBE), a, b)));
     // Without tests.
     let untested = || {
-        call!(229 gf_blocking_plane(volume: Volume, p0: 3, p1: 3) -> u32 {
+        call!(gf_blocking_plane(volume: Volume, p0: 3, p1: 3) -> u32 {
             blocking(volume, count_by_length(volume), p0, p1)
         })
     };
-    call!(229 gf_blocking_plane(volume: Volume, p0: 3, p1: 3) -> u32 {
+    call!(gf_blocking_plane(volume: Volume, p0: 3, p1: 3) -> u32 {
         let count = held(volume)?;
         (finite(volume)?, finite(p0)?, finite(p1)?);
         blocking(volume, count, p0, p1)
@@ -331,11 +331,11 @@ fn of_box() -> Call<(Volume, Boxed)> {
     let fixed = asked_to_explain().into_iter().chain(asked_boxes());
     // Without tests.
     let untested = || {
-        call!(231 gf_blocking_planes(volume: Volume, b: 23) -> u32 {
+        call!(gf_blocking_planes(volume: Volume, b: 23) -> u32 {
             Ok(behind(volume, count_by_length(volume), &boxed(b)?))
         })
     };
-    call!(231 gf_blocking_planes(volume: Volume, b: 23) -> u32 {
+    call!(gf_blocking_planes(volume: Volume, b: 23) -> u32 {
         let count = held(volume)?;
         let placed = boxed(b)?;
         (finite(volume)?, finite(b)?);

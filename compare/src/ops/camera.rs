@@ -23,7 +23,7 @@ const SEEN: Projection = [0.0, -0.5, 0.7, -0.25, 0.3, 1.0, 100.0];
 const VIEW: Matrix = [0.0, 1.0, 0.0, 0.0, -1.0, 0.0, 0.0, 0.0, 0.0, 0.0, 1.0, 0.0, 5.0, -6.0, 7.0, 1.0];
 
 fn set_from_view_and_projection() -> Box<dyn Op> {
-    call!(223 gf_camera_set_from_view_and_projection(view: 16, projection: 16; focal_length: f32) -> [f64; 24] {
+    call!(gf_camera_set_from_view_and_projection(view: 16, projection: 16; focal_length: f32) -> [f64; 24] {
         let mut camera = gf::Camera::default();
         if !camera.set_from_view_and_projection(matrix(view), matrix(projection), focal_length) {
             return Err(refusal(view, projection));
@@ -245,13 +245,11 @@ mod tests {
 
     #[test]
     fn fixed_inputs_are_answered_as_they_are_meant() {
-        let recorded = set_from_view_and_projection().vectors();
-        for (words, (status, (view, projection, focal_length))) in recorded.iter().zip(fixed()) {
-            let given = &words[1..1 + words[0] as usize];
-            let answered = words[1 + given.len()];
-            assert_eq!(answered, status.into(), "{view:?} {projection:?} {focal_length:e}");
+        let recorded = set_from_view_and_projection().records();
+        for (record, (status, (view, projection, focal_length))) in recorded.iter().zip(fixed()) {
+            assert_eq!(record.status, status, "{view:?} {projection:?} {focal_length:e}");
             let widened = if focal_length.is_nan() { f64::NAN } else { focal_length.into() };
-            assert_eq!((given.len(), given[32]), (33, widened.to_bits()), "{focal_length:e}");
+            assert_eq!(record.given[2], [widened.to_bits()], "{focal_length:e}");
         }
         assert!(recorded.len() > fixed().len());
     }

@@ -285,7 +285,7 @@ fn of_block() -> Call<(Volume, Boxed)> {
         unplaced([-2.0, 0.0, 0.0, -1.0, 1.0, 1.0]),
     ];
     let struck = struck_volumes().into_iter().flat_map(|volume| asked.map(|b| (volume, b)));
-    call!(233 gf_exact_bbox(volume: Volume, b: 23) -> bool { block_seen(volume, b) })
+    call!(gf_exact_bbox(volume: Volume, b: 23) -> bool { block_seen(volume, b) })
         .fixed(recorded.collect())
         .tried(always())
         .mended(mended_boxes)

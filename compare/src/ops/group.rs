@@ -1,19 +1,18 @@
 //! Groups of boxes: a slice of box records, of any number.
 
 use super::bbox;
+use crate::desk::{Both, Desk, Laid};
 use crate::exported::of_archive;
 use crate::inputs::{self, Boxed, MOST_BOXES, Rng};
 use crate::judge;
 use crate::lent::{Ins, Lent, Pointer, Side};
-use crate::op::{Op, Timed, Timing};
+use crate::op::{Op, Timing};
 use crate::rust::{boxed, of_box};
-use crate::trial::Trial;
-use crate::words::{self, Words};
+use crate::words;
 use openusd::gf::BBox3d;
-use std::hint::black_box;
 
 pub fn all() -> Vec<Box<dyn Op>> {
-    vec![Box::new(Group::new())]
+    vec![Box::new(of_archive())]
 }
 
 /// The numbers of a box, and the most of a group.
@@ -45,48 +44,22 @@ fn rust(boxes: &[f64], out: &mut [f64]) -> u32 {
 type Ours = unsafe extern "C" fn(*const f64, usize, *mut f64, usize) -> u32;
 type Rust = fn(&[f64], &mut [f64]) -> u32;
 
-struct Group {
-    ours: Option<Box<dyn Side>>,
-    rust: Box<dyn Side>,
-    fixed: Vec<Vec<f64>>,
-}
+struct Group;
 
-impl Group {
-    fn new() -> Group {
-        let ours: Option<Ours> =
-            of_archive!(gf_bbox_combine_group: fn(_: *const f64, _: usize, _: *mut f64, _: usize) -> u32);
-        // What is lent is as long as it says, and is not lent twice.
-        let ours = ours.map(|f| -> Box<dyn Side> {
-            Box::new(Pointer(f, |f: Ours, ins: &Ins, out: Lent| unsafe {
-                f(ins[0].at.cast_const(), ins[0].len, out.at, out.len)
-            }))
-        });
-        let rust = Box::new(Pointer(rust as Rust, |f: Rust, ins: &Ins, out: Lent| unsafe {
-            f(ins[0].slice(), std::slice::from_raw_parts_mut(out.at, out.len))
-        }));
-        Group { ours, rust, fixed: fixed() }
-    }
-
-    /// The numbers of a case, and how long the slice for the result is.
-    fn input(&self, case: u64, rng: &mut Rng) -> (Vec<f64>, usize) {
-        match self.fixed.get(case as usize) {
-            Some(group) => (group.clone(), BOX),
-            None => lent(inputs::group(rng).into_flattened(), rng),
-        }
-    }
-
-    /// Puts one case to both sides: for the judge and ours what was answered
-    /// and all that is left.
-    fn make(&self, case: u64, mut rng: Rng) -> (Desk, [(u32, Desk); 2]) {
-        let (group, room) = self.input(case, &mut rng);
-        let before = Desk::new(&group, room);
-        let made = [Some(&self.rust), self.ours.as_ref()].map(|side| {
-            let mut desk = before.clone();
-            let status = desk.put_to(side.expect("exported").as_ref());
-            (status, desk)
-        });
-        (before, made)
-    }
+fn of_archive() -> Both<Group> {
+    let ours: Option<Ours> =
+        of_archive!(gf_bbox_combine_group: fn(_: *const f64, _: usize, _: *mut f64, _: usize) -> u32);
+    // What is lent is as long as it says, and is not lent twice.
+    let ours = ours.map(|f| -> Box<dyn Side> {
+        Box::new(Pointer(f, |f: Ours, ins: &Ins, out: Lent| unsafe {
+            f(ins[0].at.cast_const(), ins[0].len, out.at, out.len)
+        }))
+    });
+    let judge = Box::new(Pointer(rust as Rust, |f: Rust, ins: &Ins, out: Lent| unsafe {
+        f(ins[0].slice(), std::slice::from_raw_parts_mut(out.at, out.len))
+    }));
+    let fixed = fixed().into_iter().map(|group| (group, BOX)).collect();
+    Both { of: Group, ours, judge, fixed }
 }
 
 /// Groups on which a port goes wrong: none, one, two and three of the boxes of
@@ -117,85 +90,53 @@ fn lent(mut numbers: Vec<f64>, rng: &mut Rng) -> (Vec<f64>, usize) {
     (numbers, room)
 }
 
-/// The numbers of a call: the group, the result, and beside them others that
-/// nobody may write.
-#[derive(Clone)]
-struct Desk {
-    words: Vec<u64>,
-    group: usize,
-    room: usize,
-}
+impl Laid for Group {
+    /// The numbers of a group, and how long the slice for the result is.
+    type Given = (Vec<f64>, usize);
+    type Side = dyn Side;
 
-const GUARD: usize = 4;
-
-impl Desk {
-    fn new(group: &[f64], room: usize) -> Desk {
-        let mut words: Vec<u64> = (0..(group.len() + room + 3 * GUARD) as u64).map(inputs::mixed).collect();
-        for (word, number) in words[GUARD..].iter_mut().zip(group) {
-            *word = number.to_bits();
-        }
-        Desk { words, group: group.len(), room }
-    }
-
-    /// Where the result is lent.
-    fn out(&self) -> std::ops::Range<usize> {
-        let at = self.group + 2 * GUARD;
-        at..at + self.room
-    }
-
-    fn put_to(&mut self, side: &dyn Side) -> u32 {
-        let base = self.words.as_mut_ptr().cast::<f64>();
-        let mut ins = [Lent::NONE; 4];
-        ins[0] = Lent { at: base.wrapping_add(GUARD), len: self.group };
-        side.call(&ins, Lent { at: base.wrapping_add(self.out().start), len: self.room })
-    }
-
-    /// Whether all is as expected: a combined box by the rule of agreement,
-    /// and bit for bit a single one, a refused one and all else.
-    fn is(&self, expected: &Desk, status: u32) -> bool {
-        let by_rule = status == 0 && self.group > BOX;
-        let agrees = if by_rule { judge::matches } else { judge::equal };
-        let out = self.out();
-        (self.words.iter().zip(&expected.words).enumerate()).all(|(i, (&is, &expected))| {
-            is == expected || (out.contains(&i) && agrees(f64::from_bits(expected), f64::from_bits(is)))
-        })
-    }
-}
-
-impl Trial for Group {
     fn name(&self) -> &'static str {
         "bbox_combine_group"
     }
 
-    fn note(&self) -> Option<&'static str> {
-        self.ours.is_none().then_some("not exported yet")
+    fn drawn(rng: &mut Rng) -> (Vec<f64>, usize) {
+        lent(inputs::group(rng).into_flattened(), rng)
     }
 
-    fn cases(&self, count: u64) -> u64 {
-        if self.ours.is_none() { 0 } else { count.max(self.fixed.len() as u64) }
+    fn lay((group, room): &(Vec<f64>, usize)) -> Desk {
+        Desk::new().numbers(group).room(*room)
     }
 
-    fn agree(&self, case: u64, rng: Rng) -> Option<usize> {
-        let (_, [(judge, expected), (ours, desk)]) = self.make(case, rng);
-        (judge == ours && desk.is(&expected, judge)).then_some(judge as usize)
+    fn put(desk: &mut Desk, side: &dyn Side) -> u32 {
+        side.call(&[desk.numbers.lent(0), Lent::NONE, Lent::NONE, Lent::NONE], desk.numbers.lent(1))
     }
 
-    fn describe(&self, case: u64, rng: Rng) -> String {
-        let (before, [(judge, expected), (ours, desk)]) = self.make(case, rng);
-        let list = |words: &[u64]| words.iter().map(|&bits| words::shown(bits)).collect::<Vec<String>>().join(", ");
-        let group = before.words[GUARD..][..before.group].chunks(BOX).map(list).collect::<Vec<String>>();
-        let mut text = format!("{}({} numbers; out of {})", self.name(), before.group, before.room);
-        text += &format!("\n      [{}]", group.join("]\n      ["));
-        text += &format!("\n      judge {judge} [{}]", list(&expected.words[expected.out()]));
-        text + &format!("\n      ours  {ours} [{}]", list(&desk.words[desk.out()]))
+    fn outcome(&self, status: u32, _: &Desk) -> usize {
+        status as usize
     }
-}
 
-impl Timed for Group {
+    /// A combined box by the rule of agreement, and bit for bit a single one, a
+    /// refused one and all else.
+    fn agrees(&self, (group, _): &(Vec<f64>, usize), status: u32, expected: &Desk, desk: &Desk) -> bool {
+        let by_rule = status == 0 && group.len() > BOX;
+        desk.is(expected, 1, if by_rule { judge::matches } else { judge::equal })
+    }
+
+    fn shown(&self, (group, room): &(Vec<f64>, usize), judge: (u32, &Desk), ours: (u32, &Desk)) -> String {
+        let boxes: Vec<String> = group.chunks(BOX).map(words::list).collect();
+        let out = |desk: &Desk| {
+            let numbers: Vec<f64> = desk.numbers.slice(1).iter().map(|&bits| f64::from_bits(bits)).collect();
+            words::list(&numbers)
+        };
+        let mut text = format!("({} numbers; out of {room})\n      [{}]", group.len(), boxes.join("]\n      ["));
+        text += &format!("\n      judge {} [{}]", judge.0, out(judge.1));
+        text + &format!("\n      ours  {} [{}]", ours.0, out(ours.1))
+    }
+
     /// Eight groups of the most boxes are a pass, as many boxes as a pass has
     /// calls elsewhere: the time is of one box of a group.
-    fn timings<'a>(&'a self) -> Vec<Timing<'a>> {
-        let Some(ours) = &self.ours else {
+    fn timings(of: &Both<Group>) -> Vec<Timing<'_>> {
+        let Some(ours) = &of.ours else {
             return vec![];
         };
         let timing = |set, boxes: &'static [Boxed]| {
@@ -203,55 +144,36 @@ impl Timed for Group {
                 .map(|group| [Lent::to_read(group.as_flattened()), Lent::NONE, Lent::NONE, Lent::NONE])
                 .collect::<Vec<Ins>>()
                 .leak();
-            let pass = |side: &'a dyn Side| {
-                let mut out = vec![0.0; BOX];
-                move || side.pass(black_box(lent), Lent::to_write(&mut out))
-            };
-            let (ours, rust) = (Box::new(pass(ours.as_ref())), Box::new(pass(self.rust.as_ref())));
-            Timing { set, ours, rust }
+            Timing::of(set, [ours, &of.judge].map(|side| (side.as_ref(), lent)), BOX)
         };
         vec![
             timing("a box of 256", Timing::inputs(|_, rng| inputs::ordinary_box(rng))),
             timing("a box of 256, z from 0", Timing::inputs(|_, rng| inputs::ground_box(rng))),
         ]
     }
-}
-
-impl Op for Group {
-    fn code(&self) -> u64 {
-        224
-    }
 
     /// The fixed groups, and drawn ones of at most three boxes.
-    fn vectors(&self) -> Vec<Words> {
+    fn recorded(of: &Both<Group>) -> Vec<(Vec<f64>, usize)> {
         let drawn = (0..).map(|case| inputs::group(&mut Rng::at(1, case))).filter(|group| group.len() <= 3);
-        let drawn = drawn.take(20).map(|group| group.into_flattened());
-        let recorded = |group: Vec<f64>| {
-            let mut desk = Desk::new(&group, BOX);
-            let status = desk.put_to(self.rust.as_ref());
-            let given: Vec<u64> = group.iter().map(|number| number.to_bits()).collect();
-            let result = desk.words[desk.out()].iter().map(|&bits| words::plain(bits)).collect::<Vec<u64>>();
-            words::record(&given, status, if status == 0 { &result } else { &[] })
-        };
-        self.fixed.iter().cloned().chain(drawn).map(recorded).collect()
+        let drawn = drawn.take(20).map(|group| (group.into_flattened(), BOX));
+        of.fixed.iter().cloned().chain(drawn).collect()
     }
 
-    fn sides(&self) -> Option<[Option<&dyn Side>; 2]> {
-        Some([Some(self.rust.as_ref()), self.ours.as_deref()])
+    fn words(&self, _: &(Vec<f64>, usize), desk: &Desk) -> (Vec<Vec<u64>>, Vec<u64>) {
+        let left = desk.numbers.slice(1).iter().map(|&bits| words::plain(bits)).collect();
+        (vec![desk.numbers.slice(0).to_vec()], left)
     }
 
+    fn sides(of: &Both<Group>) -> [Option<&dyn Side>; 2] {
+        [Some(of.judge.as_ref()), of.ours.as_deref()]
+    }
+
+    /// Too many and not whole boxes; not whole boxes; no room; no flag.
     #[cfg(test)]
-    fn refusals(&self) -> Vec<u32> {
-        let judged = |numbers: usize, flag: f64, room: usize| {
-            let group = vec![flag; numbers];
-            Desk::new(&group, room).put_to(self.rust.as_ref())
-        };
-        // Too many and not whole boxes; not whole boxes; no room; no flag.
-        let mended =
-            [(MOST + 1, 0.5, 0), (2 * BOX + 1, 0.5, 0), (2 * BOX, 0.5, 0), (2 * BOX, 0.5, BOX), (2 * BOX, 1.0, BOX)];
-        let mut answers = mended.map(|(numbers, flag, room)| judged(numbers, flag, room)).to_vec();
-        assert_eq!(answers.pop(), Some(0), "the last has no fault");
-        answers
+    fn mended() -> Vec<(Vec<f64>, usize)> {
+        let given = [(MOST + 1, 0.5, 0), (2 * BOX + 1, 0.5, 0), (2 * BOX, 0.5, 0), (2 * BOX, 0.5, BOX)];
+        let given = given.into_iter().chain([(2 * BOX, 1.0, BOX)]);
+        given.map(|(numbers, flag, room)| (vec![flag; numbers], room)).collect()
     }
 }
 

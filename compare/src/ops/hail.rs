@@ -3,19 +3,18 @@
 #[cfg(test)]
 mod slips;
 
+use crate::desk::{Both, Desk, Laid, seen};
 use crate::exported::of_archive;
-use crate::inputs::{self, Point, Ray, Rng, mixed, ray_of};
+use crate::inputs::{self, Point, Ray, Rng, ray_of};
 use crate::judge::{self, MISS, WRONG_INPUT, WRONG_OUTPUT};
 use crate::lent::{Ins, Lent, Pointer, Side};
-use crate::op::{Op, Timed, Timing};
+use crate::op::{Op, Timing};
 use crate::rust::{point, ray};
-use crate::trial::{Outcome, Trial};
-use crate::words::{self, Words};
-use std::hint::black_box;
+use crate::words;
 use std::slice;
 
 pub fn all() -> Vec<Box<dyn Op>> {
-    vec![Box::new(Hail::of_archive())]
+    vec![Box::new(of_archive())]
 }
 
 /// The numbers of a ray, and of its hit.
@@ -59,18 +58,18 @@ type Ours = unsafe extern "C" fn(
 type Rust = fn(&[f64], [&[f64]; 3], &mut [f64], &mut [u32]) -> u32;
 
 /// What a call is lent: the rays, the three points; then numbers and slots.
-type Call<'a> = Box<dyn Fn(&Ins, Lent, Lent) -> u32 + Send + Sync + 'a>;
+type Call = dyn Fn(&Ins, Lent, Lent) -> u32 + Send + Sync;
 
 // What is lent is as long as it says, and is not lent twice.
 
-fn by_rust(f: Rust) -> Call<'static> {
+fn by_rust(f: Rust) -> Box<Call> {
     Box::new(move |&[rays, a, b, c]: &Ins, out: Lent, status: Lent| unsafe {
         let out = slice::from_raw_parts_mut(out.at, out.len);
         f(rays.slice(), [a.slice(), b.slice(), c.slice()], out, status.slots())
     })
 }
 
-fn by_archive(f: Ours) -> Call<'static> {
+fn by_archive(f: Ours) -> Box<Call> {
     Box::new(move |ins: &Ins, out: Lent, status: Lent| unsafe { called(f, ins, out, status) })
 }
 
@@ -92,62 +91,35 @@ fn rooms(rays: Lent, out: Lent) -> (Lent, Lent) {
     (Lent { at: out.at, len: HIT * count }, Lent { at: out.at.wrapping_add(HIT * count), len: count })
 }
 
-/// Both sides, and what is always tried.
+/// Both sides with one room for both results.
 struct Hail {
-    ours: Option<Call<'static>>,
-    judge: Call<'static>,
-    /// The same with one room for both results.
     sides: [Option<Box<dyn Side>>; 2],
-    fixed: Vec<Given>,
 }
 
-impl Hail {
-    fn of_archive() -> Hail {
-        #[rustfmt::skip]
-        let ours: Option<Ours> = of_archive!(
-            gf_rays_intersect_triangle: fn(
-                _: *const f64, _: usize, _: *const f64, _: usize, _: *const f64, _: usize, _: *const f64, _: usize,
-                _: *mut f64, _: usize, _: *mut u32, _: usize,
-            ) -> u32
-        );
-        let archive = ours.map(|f| -> Box<dyn Side> {
-            Box::new(Pointer(f, |f: Ours, ins: &Ins, out: Lent| {
-                let (out, status) = rooms(ins[0], out);
-                unsafe { called(f, ins, out, status) }
-            }))
-        });
-        let rust: Box<dyn Side> = Box::new(Pointer(judge as Rust, |f: Rust, ins: &Ins, out: Lent| unsafe {
+fn of_archive() -> Both<Hail> {
+    #[rustfmt::skip]
+    let ours: Option<Ours> = of_archive!(
+        gf_rays_intersect_triangle: fn(
+            _: *const f64, _: usize, _: *const f64, _: usize, _: *const f64, _: usize, _: *const f64, _: usize,
+            _: *mut f64, _: usize, _: *mut u32, _: usize,
+        ) -> u32
+    );
+    let archive = ours.map(|f| -> Box<dyn Side> {
+        Box::new(Pointer(f, |f: Ours, ins: &Ins, out: Lent| {
             let (out, status) = rooms(ins[0], out);
-            let [rays, a, b, c] = ins.map(|lent| lent.slice());
-            f(rays, [a, b, c], slice::from_raw_parts_mut(out.at, out.len), status.slots())
-        }));
-        Hail { sides: [Some(rust), archive], ..Hail::of(ours.map(by_archive)) }
-    }
-
-    fn of(ours: Option<Call<'static>>) -> Hail {
-        Hail { ours, judge: by_rust(judge), sides: [None, None], fixed: fixed() }
-    }
-
-    fn given(&self, case: u64, rng: &mut Rng) -> Given {
-        match self.fixed.get(case as usize) {
-            Some(given) => given.clone(),
-            None => drawn(rng),
-        }
-    }
-
-    /// Puts one case to both sides: for the judge and ours what was answered
-    /// and all that is left.
-    fn make(&self, case: u64, mut rng: Rng) -> (Given, [(u32, Desk); 2]) {
-        let given = self.given(case, &mut rng);
-        let made = [Some(&self.judge), self.ours.as_ref()].map(|side| put(&given, side.expect("exported")));
-        (given, made)
-    }
+            unsafe { called(f, ins, out, status) }
+        }))
+    });
+    let rust: Box<dyn Side> = Box::new(Pointer(judge as Rust, |f: Rust, ins: &Ins, out: Lent| unsafe {
+        let (out, status) = rooms(ins[0], out);
+        let [rays, a, b, c] = ins.map(|lent| lent.slice());
+        f(rays, [a, b, c], slice::from_raw_parts_mut(out.at, out.len), status.slots())
+    }));
+    Both { of: Hail { sides: [Some(rust), archive] }, ..by(ours.map(by_archive)) }
 }
 
-fn put(given: &Given, side: &Call) -> (u32, Desk) {
-    let mut desk = Desk::new(given);
-    let status = desk.put_to(side);
-    (status, desk)
+fn by(ours: Option<Box<Call>>) -> Both<Hail> {
+    Both { of: Hail { sides: [None, None] }, ours, judge: by_rust(judge), fixed: fixed() }
 }
 
 /// What a call is given: numbers of any count, and so much room.
@@ -311,117 +283,6 @@ fn drawn(rng: &mut Rng) -> Given {
     }
 }
 
-/// What a call is lent, and beside it what nobody may write.
-#[derive(Clone)]
-struct Desk {
-    /// The rays, the three points and the numbers of the hits.
-    numbers: Vec<u64>,
-    slots: Vec<u32>,
-    len: [usize; 6],
-}
-
-/// How much is beside each; an odd number, so that a u32 lies at any
-/// alignment that it may.
-const GUARD: usize = 5;
-
-impl Desk {
-    fn new(given: &Given) -> Desk {
-        let [a, b, c] = &given.corners;
-        let len = [given.rays.len(), a.len(), b.len(), c.len(), given.room, given.slots];
-        let all = len[..5].iter().sum::<usize>() + 6 * GUARD;
-        let mut desk = Desk {
-            numbers: (0..all as u64).map(mixed).collect(),
-            slots: (0..(given.slots + 2 * GUARD) as u64).map(|i| mixed(!i) as u32).collect(),
-            len,
-        };
-        for (i, numbers) in [&given.rays, a, b, c].into_iter().enumerate() {
-            let at = desk.at(i);
-            for (word, number) in desk.numbers[at..].iter_mut().zip(numbers) {
-                *word = number.to_bits();
-            }
-        }
-        desk
-    }
-
-    /// Where the numbers of a record, or of the hits, begin.
-    fn at(&self, i: usize) -> usize {
-        self.len[..i].iter().sum::<usize>() + (i + 1) * GUARD
-    }
-
-    fn put_to(&mut self, side: &Call) -> u32 {
-        let numbers = self.numbers.as_mut_ptr().cast::<f64>();
-        let slots = Lent { at: self.slots.as_mut_ptr().wrapping_add(GUARD).cast(), len: self.len[5] };
-        let lent = |i: usize| Lent { at: numbers.wrapping_add(self.at(i)), len: self.len[i] };
-        side(&[lent(0), lent(1), lent(2), lent(3)], lent(4), slots)
-    }
-
-    fn hits(&self) -> &[u64] {
-        &self.numbers[self.at(4)..][..self.len[4]]
-    }
-
-    fn slots(&self) -> &[u32] {
-        &self.slots[GUARD..][..self.len[5]]
-    }
-
-    /// Bit for bit, but that a NaN of a hit may be any.
-    fn agrees(&self, other: &Desk) -> bool {
-        let (from, to) = (self.at(4), self.at(4) + self.len[4]);
-        let same = |a: &Desk, b: &Desk| a.numbers[..from] == b.numbers[..from] && a.numbers[to..] == b.numbers[to..];
-        let numbers = || self.hits().iter().zip(other.hits());
-        let hits = numbers().all(|(&a, &b)| judge::signed(f64::from_bits(a), f64::from_bits(b)));
-        same(self, other) && hits && self.slots == other.slots
-    }
-}
-
-fn outcome(status: u32, desk: &Desk) -> usize {
-    match status {
-        0 if desk.slots().contains(&0) => Outcome::YES,
-        0 => Outcome::NO,
-        _ => status as usize,
-    }
-}
-
-impl Trial for Hail {
-    fn name(&self) -> &'static str {
-        "rays_intersect_triangle"
-    }
-
-    fn note(&self) -> Option<&str> {
-        self.ours.is_none().then_some("not exported yet")
-    }
-
-    fn cases(&self, count: u64) -> u64 {
-        if self.ours.is_none() { 0 } else { count.max(self.fixed.len() as u64) }
-    }
-
-    fn agree(&self, case: u64, rng: Rng) -> Option<usize> {
-        let (_, [(judge, expected), (ours, desk)]) = self.make(case, rng);
-        (judge == ours && desk.agrees(&expected)).then(|| outcome(judge, &expected))
-    }
-
-    fn describe(&self, case: u64, rng: Rng) -> String {
-        let (given, [(judge, expected), (ours, desk)]) = self.make(case, rng);
-        let list = |numbers: &[f64]| {
-            numbers.iter().map(|number| words::shown(number.to_bits())).collect::<Vec<String>>().join(", ")
-        };
-        let Given { rays, corners, room, slots } = &given;
-        let mut text = format!("{}({} numbers; room for {room}; {slots} slots)", self.name(), rays.len());
-        for corner in corners {
-            text += &format!("\n      [{}]", list(corner));
-        }
-        let hits = |desk: &Desk, i: usize| {
-            let hit: Vec<f64> = desk.hits().iter().skip(HIT * i).take(HIT).map(|&bits| f64::from_bits(bits)).collect();
-            format!("{:?} [{}]", desk.slots().get(i), list(&hit))
-        };
-        for (i, ray) in rays.chunks(RAY).enumerate() {
-            text += &format!("\n      {i} [{}]", list(ray));
-            text += &format!("\n        judge {judge} {}", hits(&expected, i));
-            text += &format!("\n        ours  {ours} {}", hits(&desk, i));
-        }
-        text
-    }
-}
-
 /// Calls of so many rays each, as many rays in all as a pass has calls
 /// elsewhere, each with a triangle of its own; with room for both results.
 fn timed(count: usize) -> &'static [(Ins, Lent)] {
@@ -434,73 +295,95 @@ fn timed(count: usize) -> &'static [(Ins, Lent)] {
     (0..Timing::CALLS / count).map(call).collect::<Vec<_>>().leak()
 }
 
-impl Timed for Hail {
-    /// The time is of one ray.
-    fn timings<'a>(&'a self) -> Vec<Timing<'a>> {
-        let [Some(rust), Some(ours)] = &self.sides else {
-            return vec![];
-        };
-        let pass = |side: &'a dyn Side, calls: &'static [(Ins, Lent)]| {
-            Box::new(move || calls.iter().for_each(|(ins, out)| side.pass(black_box(slice::from_ref(ins)), *out)))
-        };
-        let timing = |(set, count): (&'static str, usize)| {
-            let calls = timed(count);
-            Timing { set, ours: pass(ours.as_ref(), calls), rust: pass(rust.as_ref(), calls) }
-        };
-        [("1 ray", 1), ("4 rays", 4), ("16 rays", 16), ("128 rays", 128)].map(timing).into()
-    }
-}
-
 /// How many drawn ones are recorded.
 const RECORDED: usize = 20;
 
-impl Op for Hail {
-    fn code(&self) -> u64 {
-        230
+impl Laid for Hail {
+    type Given = Given;
+    type Side = Call;
+
+    fn name(&self) -> &'static str {
+        "rays_intersect_triangle"
+    }
+
+    fn drawn(rng: &mut Rng) -> Given {
+        drawn(rng)
+    }
+
+    fn lay(Given { rays, corners: [a, b, c], room, slots }: &Given) -> Desk {
+        Desk::new().numbers(rays).numbers(a).numbers(b).numbers(c).room(*room).slots(*slots)
+    }
+
+    fn put(desk: &mut Desk, side: &Call) -> u32 {
+        let [rays, a, b, c, out] = [0, 1, 2, 3, 4].map(|i| desk.numbers.lent(i));
+        side(&[rays, a, b, c], out, desk.words.lent(0))
+    }
+
+    fn outcome(&self, status: u32, desk: &Desk) -> usize {
+        seen(status, desk.words.slice(0).contains(&0))
+    }
+
+    /// A NaN of a hit may be any.
+    fn agrees(&self, _: &Given, _: u32, expected: &Desk, desk: &Desk) -> bool {
+        desk.is(expected, 4, judge::signed)
+    }
+
+    fn shown(&self, given: &Given, judge: (u32, &Desk), ours: (u32, &Desk)) -> String {
+        let Given { rays, corners, room, slots } = given;
+        let mut text = format!("({} numbers; room for {room}; {slots} slots)", rays.len());
+        for corner in corners {
+            text += &format!("\n      [{}]", words::list(corner));
+        }
+        let hits = |desk: &Desk, i: usize| {
+            let hit = desk.numbers.slice(4).iter().skip(HIT * i).take(HIT);
+            let hit: Vec<f64> = hit.map(|&bits| f64::from_bits(bits)).collect();
+            format!("{:?} [{}]", desk.words.slice(0).get(i), words::list(&hit))
+        };
+        for (i, ray) in rays.chunks(RAY).enumerate() {
+            text += &format!("\n      {i} [{}]", words::list(ray));
+            text += &format!("\n        judge {} {}", judge.0, hits(judge.1, i));
+            text += &format!("\n        ours  {} {}", ours.0, hits(ours.1, i));
+        }
+        text
+    }
+
+    /// The time is of one ray.
+    fn timings(of: &Both<Hail>) -> Vec<Timing<'_>> {
+        let [Some(rust), Some(ours)] = &of.of.sides else {
+            return vec![];
+        };
+        let timing =
+            |(set, count): (&'static str, usize)| Timing::with_rooms(set, [ours.as_ref(), rust.as_ref()], timed(count));
+        [("1 ray", 1), ("4 rays", 4), ("16 rays", 16), ("128 rays", 128)].map(timing).into()
     }
 
     /// The fixed ones of at most three rays whose lengths are right, or that have
     /// no ray; and drawn ones.
-    fn vectors(&self) -> Vec<Words> {
+    fn recorded(of: &Both<Hail>) -> Vec<Given> {
         let fits = |given: &Given| {
             let right = given.corners.iter().all(|corner| corner.len() == 3);
             right && given.slots < 4 && given.rays.len() == RAY * given.slots && given.room == HIT * given.slots
         };
-        let fixed = self.fixed.iter().cloned().filter(fits);
         let drawn = (0..).map(|case| drawn(&mut Rng::at(1, case))).filter(fits).take(RECORDED);
-        let recorded = |given: Given| {
-            let (status, desk) = put(&given, &self.judge);
-            let numbers = given.rays.iter().chain(given.corners.iter().flatten());
-            let inputs: Vec<u64> = numbers.map(|number| number.to_bits()).collect();
-            let hits = desk.hits().iter().map(|&bits| words::plain(bits));
-            let result: Vec<u64> = hits.chain(desk.slots().iter().map(|&slot| slot.into())).collect();
-            words::record(&inputs, status, if status == 0 { &result } else { &[] })
-        };
-        let mut once: Vec<Words> = vec![];
-        for words in fixed.chain(drawn).map(recorded) {
-            if !once.contains(&words) {
-                once.push(words);
-            }
-        }
-        once
+        of.fixed.iter().cloned().filter(fits).chain(drawn).collect()
     }
 
-    fn sides(&self) -> Option<[Option<&dyn Side>; 2]> {
-        Some([self.sides[0].as_deref(), self.sides[1].as_deref()])
+    /// The numbers of all hits, and then the slots.
+    fn words(&self, _: &Given, desk: &Desk) -> (Vec<Vec<u64>>, Vec<u64>) {
+        let given = [0, 1, 2, 3].map(|i| desk.numbers.slice(i).to_vec()).to_vec();
+        let hits = desk.numbers.slice(4).iter().map(|&bits| words::plain(bits));
+        (given, hits.chain(desk.words.slice(0).iter().map(|&slot| slot.into())).collect())
     }
 
+    fn sides(of: &Both<Hail>) -> [Option<&dyn Side>; 2] {
+        [of.of.sides[0].as_deref(), of.of.sides[1].as_deref()]
+    }
+
+    /// No rays, no points and no room; no room; no fault.
     #[cfg(test)]
-    fn refusals(&self) -> Vec<u32> {
+    fn mended() -> Vec<Given> {
         let given = || Given::of(&[down(0.25, 0.5), down(2.0, 0.5)], FLOOR);
-        // No rays, no points and no room; no room; no fault.
-        let mended = [given().cut(0, [0; 3], 0, 0), given().cut(12, [3; 3], 0, 0), given()];
-        let mut answers: Vec<u32> = mended.iter().map(|given| put(given, &self.judge).0).collect();
-        assert_eq!(answers.pop(), Some(0), "the last has no fault");
-        for case in 0..20_000 {
-            let status = put(&self.given(case, &mut Rng::at(1, case)), &self.judge).0;
-            assert!(status == 0 || answers.contains(&status), "{}: {status} is not met", self.name());
-        }
-        answers
+        vec![given().cut(0, [0; 3], 0, 0), given().cut(12, [3; 3], 0, 0), given()]
     }
 }
 

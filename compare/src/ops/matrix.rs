@@ -57,7 +57,7 @@ fn fixed() -> Vec<Matrix> {
 fn product() -> Box<dyn Op> {
     let fixed = fixed();
     let pairs = fixed.iter().zip(fixed.iter().rev()).map(|(&a, &b)| (a, b)).collect();
-    call!(101 gf_product(a: 16, b: 16) -> [f64; 16] { Ok((matrix(a) * matrix(b)).0) })
+    call!(gf_product(a: 16, b: 16) -> [f64; 16] { Ok((matrix(a) * matrix(b)).0) })
         .fixed(pairs)
         .drawn(|_, rng| (inputs::matrix(rng), inputs::matrix(rng)))
         .timed("placements", |_, rng| (inputs::placement(rng), inputs::placement(rng)))
@@ -65,7 +65,7 @@ fn product() -> Box<dyn Op> {
 }
 
 fn transpose() -> Box<dyn Op> {
-    call!(102 gf_transpose(m: 16) -> [f64; 16] { Ok(matrix(m).transpose().0) })
+    call!(gf_transpose(m: 16) -> [f64; 16] { Ok(matrix(m).transpose().0) })
         .fixed(vec![(std::array::from_fn(|i| i as f64),)])
         .drawn(|_, rng| (inputs::numbers(rng),))
         .timed("placements", |_, rng| (inputs::placement(rng),))
@@ -83,7 +83,7 @@ fn told() -> [(Matrix, Option<Matrix>); 3] {
 }
 
 fn inverse() -> Box<dyn Op> {
-    call!(103 gf_inverse(m: 16) -> [f64; 16] { Ok(matrix(m).inverse().ok_or(SINGULAR)?.0) })
+    call!(gf_inverse(m: 16) -> [f64; 16] { Ok(matrix(m).inverse().ok_or(SINGULAR)?.0) })
         .fixed(fixed().into_iter().map(|m| (m,)).collect())
         .tried(told().map(|(m, _)| (m,)).into())
         .drawn(|_, rng| (inputs::matrix(rng),))
@@ -111,7 +111,7 @@ fn fixed_points() -> Vec<(Matrix, [f64; 3])> {
 }
 
 fn transform() -> Box<dyn Op> {
-    call!(104 gf_transform(m: 16, p: 3) -> [f64; 3] { Ok(matrix(m).transform(point(p)).into()) })
+    call!(gf_transform(m: 16, p: 3) -> [f64; 3] { Ok(matrix(m).transform(point(p)).into()) })
         .fixed(fixed_points())
         .drawn(|_, rng| inputs::matrix_and_point(rng))
         .timed("placements", |_, rng| (inputs::placement(rng), inputs::ordinary_point(rng)))
@@ -119,7 +119,7 @@ fn transform() -> Box<dyn Op> {
 }
 
 fn transform_affine() -> Box<dyn Op> {
-    call!(105 gf_transform_affine(m: 16, p: 3) -> [f64; 3] { Ok(matrix(m).transform_affine(point(p)).into()) })
+    call!(gf_transform_affine(m: 16, p: 3) -> [f64; 3] { Ok(matrix(m).transform_affine(point(p)).into()) })
         .fixed(fixed_points())
         .drawn(|_, rng| inputs::matrix_and_point(rng))
         .timed("placements", |_, rng| (inputs::placement(rng), inputs::ordinary_point(rng)))
@@ -127,7 +127,7 @@ fn transform_affine() -> Box<dyn Op> {
 }
 
 fn transform_dir() -> Box<dyn Op> {
-    call!(106 gf_transform_dir(m: 16, p: 3) -> [f64; 3] { Ok(matrix(m).transform_dir(point(p)).into()) })
+    call!(gf_transform_dir(m: 16, p: 3) -> [f64; 3] { Ok(matrix(m).transform_dir(point(p)).into()) })
         .fixed(fixed_points())
         .drawn(|_, rng| inputs::matrix_and_point(rng))
         .timed("placements", |_, rng| (inputs::placement(rng), inputs::ordinary_point(rng)))
@@ -136,7 +136,7 @@ fn transform_dir() -> Box<dyn Op> {
 
 fn transform_homogeneous() -> Box<dyn Op> {
     let fixed = fixed_points().into_iter().map(|(m, [x, y, z])| (m, [x, y, z, 2.0])).collect();
-    call!(107 gf_transform_homogeneous(m: 16, v: 4) -> [f64; 4] {
+    call!(gf_transform_homogeneous(m: 16, v: 4) -> [f64; 4] {
         Ok(of_homogeneous(matrix(m).transform_homogeneous(homogeneous(v))))
     })
     .fixed(fixed)
@@ -146,7 +146,7 @@ fn transform_homogeneous() -> Box<dyn Op> {
 }
 
 fn determinant3() -> Box<dyn Op> {
-    call!(108 gf_determinant3(m: 16) -> f64 { Ok(matrix(m).determinant3()) })
+    call!(gf_determinant3(m: 16) -> f64 { Ok(matrix(m).determinant3()) })
         .fixed(fixed().into_iter().map(|m| (m,)).collect())
         .drawn(|_, rng| (inputs::matrix(rng),))
         .timed("placements", |_, rng| (inputs::placement(rng),))
@@ -154,7 +154,7 @@ fn determinant3() -> Box<dyn Op> {
 }
 
 fn is_right_handed() -> Box<dyn Op> {
-    call!(109 gf_is_right_handed(m: 16) -> bool { Ok(matrix(m).is_right_handed()) })
+    call!(gf_is_right_handed(m: 16) -> bool { Ok(matrix(m).is_right_handed()) })
         .fixed(fixed().into_iter().map(|m| (m,)).collect())
         .drawn(|_, rng| (inputs::matrix(rng),))
         .timed("placements", |_, rng| (inputs::placement(rng),))

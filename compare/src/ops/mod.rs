@@ -1,5 +1,4 @@
-//! The exported functions: one function here for each, in the order of their
-//! codes.
+//! The exported functions: one function here for each.
 
 mod batch;
 mod bbox;
@@ -47,14 +46,4 @@ pub fn all() -> Vec<Box<dyn Op>> {
         exact_box::all(),
     ];
     files.into_iter().flatten().collect()
-}
-
-#[cfg(test)]
-mod tests {
-    #[test]
-    fn each_function_has_a_code_of_its_own() {
-        let mut codes: Vec<u64> = super::all().iter().map(|op| op.code()).collect();
-        codes.sort_unstable();
-        assert_eq!(codes, (1..=7).chain(101..=116).chain(201..=233).collect::<Vec<u64>>());
-    }
 }

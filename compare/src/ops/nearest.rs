@@ -4,20 +4,19 @@
 #[cfg(test)]
 mod slips;
 
+use crate::desk::{Both, Desk, Laid};
 use crate::exported::of_archive;
-use crate::inputs::{self, EMPTY, MOST_RANGES, Point, Range, Report, Rng, mixed, square_to, with};
+use crate::inputs::{self, EMPTY, MOST_RANGES, Point, Range, Report, Rng, square_to, with};
 use crate::judge::{NO_PLACE, WRONG_INPUT, WRONG_OUTPUT};
 use crate::lent::{Ins, Lent, Pointer, Side};
-use crate::op::{Op, Timed, Timing};
+use crate::op::{Op, Timing};
 use crate::rust::{point, range};
-use crate::trial::{Outcome, Trial};
-use crate::words::{self, Words};
+use crate::trial::Outcome;
+use crate::words;
 use openusd::gf::Vec3d;
-use std::hint::black_box;
-use std::slice;
 
 pub fn all() -> Vec<Box<dyn Op>> {
-    vec![Box::new(Search::nearest()), Box::new(Search::within())]
+    vec![Box::new(nearest_of_archive()), Box::new(within_of_archive())]
 }
 
 /// The numbers of a range, and the most of a call.
@@ -88,99 +87,51 @@ type RustWithin = fn(&[f64], &[f64], f64, &mut [u32], &mut u32) -> u32;
 // What a side is lent, in this order: the ranges, the point, the limit and the
 // slots; then the place, or the number found. Slots and the latter are u32.
 
-unsafe fn word<'a>(lent: Lent) -> &'a mut u32 {
-    unsafe { &mut *lent.at.cast() }
-}
-
-/// One of the two functions, both sides of it, and what is always tried.
+/// One of the two functions.
 struct Search {
     name: &'static str,
-    code: u64,
     lists: bool,
-    ours: Option<Box<dyn Side>>,
-    rust: Box<dyn Side>,
-    fixed: Vec<Given>,
 }
 
 // What is lent is as long as it says, and is not lent twice.
-impl Search {
-    fn nearest() -> Search {
-        let ours: Option<OurNearest> = of_archive!(
-            gf_range_nearest: fn(_: *const f64, _: usize, _: *const f64, _: usize, _: *mut u32) -> u32
-        );
-        Search::nearest_of(ours.map(|f| -> Box<dyn Side> {
-            Box::new(Pointer(f, |f: OurNearest, &[ranges, p, ..]: &Ins, out: Lent| unsafe {
-                f(ranges.at.cast_const(), ranges.len, p.at.cast_const(), p.len, out.at.cast())
-            }))
+
+fn nearest_of_archive() -> Both<Search> {
+    let ours: Option<OurNearest> = of_archive!(
+        gf_range_nearest: fn(_: *const f64, _: usize, _: *const f64, _: usize, _: *mut u32) -> u32
+    );
+    nearest_by(ours.map(|f| -> Box<dyn Side> {
+        Box::new(Pointer(f, |f: OurNearest, &[ranges, p, ..]: &Ins, out: Lent| unsafe {
+            f(ranges.at.cast_const(), ranges.len, p.at.cast_const(), p.len, out.at.cast())
         }))
-    }
+    }))
+}
 
-    fn nearest_of(ours: Option<Box<dyn Side>>) -> Search {
-        let rust =
-            Box::new(Pointer(nearest as RustNearest, |f: RustNearest, &[ranges, p, ..]: &Ins, out: Lent| unsafe {
-                f(ranges.slice(), p.slice(), word(out))
-            }));
-        Search { name: "range_nearest", code: 225, lists: false, ours, rust, fixed: fixed() }
-    }
+fn nearest_by(ours: Option<Box<dyn Side>>) -> Both<Search> {
+    let judge = Box::new(Pointer(nearest as RustNearest, |f: RustNearest, &[ranges, p, ..]: &Ins, out: Lent| unsafe {
+        f(ranges.slice(), p.slice(), out.word())
+    }));
+    Both { of: Search { name: "range_nearest", lists: false }, ours, judge, fixed: fixed() }
+}
 
-    fn within() -> Search {
-        let ours: Option<OurWithin> = of_archive!(
-            gf_range_within:
-                fn(_: *const f64, _: usize, _: *const f64, _: usize, _: f64, _: *mut u32, _: usize, _: *mut u32) -> u32
-        );
-        Search::within_of(ours.map(|f| -> Box<dyn Side> {
-            Box::new(Pointer(f, |f: OurWithin, &[ranges, p, limit, out]: &Ins, found: Lent| unsafe {
-                let (ranges_at, p_at) = (ranges.at.cast_const(), p.at.cast_const());
-                f(ranges_at, ranges.len, p_at, p.len, *limit.at, out.at.cast(), out.len, found.at.cast())
-            }))
+fn within_of_archive() -> Both<Search> {
+    let ours: Option<OurWithin> = of_archive!(
+        gf_range_within:
+            fn(_: *const f64, _: usize, _: *const f64, _: usize, _: f64, _: *mut u32, _: usize, _: *mut u32) -> u32
+    );
+    within_by(ours.map(|f| -> Box<dyn Side> {
+        Box::new(Pointer(f, |f: OurWithin, &[ranges, p, limit, out]: &Ins, found: Lent| unsafe {
+            let (ranges_at, p_at) = (ranges.at.cast_const(), p.at.cast_const());
+            f(ranges_at, ranges.len, p_at, p.len, *limit.at, out.at.cast(), out.len, found.at.cast())
         }))
-    }
+    }))
+}
 
-    fn within_of(ours: Option<Box<dyn Side>>) -> Search {
-        let rust = Box::new(Pointer(
-            within as RustWithin,
-            |f: RustWithin, &[ranges, p, limit, out]: &Ins, found: Lent| unsafe {
-                f(ranges.slice(), p.slice(), *limit.at, out.slots(), word(found))
-            },
-        ));
-        Search { name: "range_within", code: 226, lists: true, ours, rust, fixed: fixed() }
-    }
-
-    fn given(&self, case: u64, rng: &mut Rng) -> Given {
-        match self.fixed.get(case as usize) {
-            Some(given) => given.clone(),
-            None => lent(inputs::report(rng), rng),
-        }
-    }
-
-    /// Puts one case to both sides: for the judge and ours what was answered
-    /// and all that is left.
-    fn make(&self, case: u64, mut rng: Rng) -> (Given, [(u32, Desk); 2]) {
-        let given = self.given(case, &mut rng);
-        let before = Desk::new(&given);
-        let made = [Some(&self.rust), self.ours.as_ref()].map(|side| {
-            let mut desk = before.clone();
-            let status = desk.put_to(side.expect("exported").as_ref());
-            (status, desk)
-        });
-        (given, made)
-    }
-
-    /// What the judge answers, and what it leaves.
-    fn judged(&self, given: &Given) -> (u32, Desk) {
-        let mut desk = Desk::new(given);
-        let status = desk.put_to(self.rust.as_ref());
-        (status, desk)
-    }
-
-    fn outcome(&self, status: u32, desk: &Desk) -> usize {
-        let none = if self.lists { 0 } else { NO_PLACE };
-        match status {
-            0 if desk.word() == none => Outcome::NONE,
-            0 => Outcome::PLACE,
-            _ => status as usize,
-        }
-    }
+fn within_by(ours: Option<Box<dyn Side>>) -> Both<Search> {
+    let judge =
+        Box::new(Pointer(within as RustWithin, |f: RustWithin, &[ranges, p, limit, out]: &Ins, found: Lent| unsafe {
+            f(ranges.slice(), p.slice(), *limit.at, out.slots(), found.word())
+        }));
+    Both { of: Search { name: "range_within", lists: true }, ours, judge, fixed: fixed() }
 }
 
 /// What a call is given: numbers of any count, and so many slots.
@@ -339,127 +290,6 @@ fn lent(report: Report, rng: &mut Rng) -> Given {
     }
 }
 
-/// What a call is lent, and beside it what nobody may write.
-#[derive(Clone, PartialEq)]
-struct Desk {
-    /// The ranges, the point, the limit.
-    numbers: Vec<u64>,
-    /// The slots, and the place or the number found.
-    words: Vec<u32>,
-    ranges: usize,
-    p: usize,
-    slots: usize,
-}
-
-/// How much is beside each; an odd number, so that a u32 lies at any
-/// alignment that it may.
-const GUARD: usize = 5;
-
-impl Desk {
-    fn new(given: &Given) -> Desk {
-        let (ranges, p) = (given.ranges.len(), given.p.len());
-        let mut desk = Desk {
-            numbers: (0..(ranges + p + 1 + 4 * GUARD) as u64).map(mixed).collect(),
-            words: (0..(given.slots + 1 + 3 * GUARD) as u64).map(|i| mixed(!i) as u32).collect(),
-            ranges,
-            p,
-            slots: given.slots,
-        };
-        let (p_at, limit_at) = (desk.p_at(), desk.limit_at());
-        let mut put = |at: usize, numbers: &[f64]| {
-            for (word, number) in desk.numbers[at..].iter_mut().zip(numbers) {
-                *word = number.to_bits();
-            }
-        };
-        put(GUARD, &given.ranges);
-        put(p_at, &given.p);
-        put(limit_at, &[given.limit]);
-        desk
-    }
-
-    fn p_at(&self) -> usize {
-        2 * GUARD + self.ranges
-    }
-
-    fn limit_at(&self) -> usize {
-        self.p_at() + self.p + GUARD
-    }
-
-    fn word_at(&self) -> usize {
-        2 * GUARD + self.slots
-    }
-
-    fn put_to(&mut self, side: &dyn Side) -> u32 {
-        let numbers = self.numbers.as_mut_ptr().cast::<f64>();
-        let words = self.words.as_mut_ptr();
-        let lent = |at: usize, len: usize| Lent { at: numbers.wrapping_add(at), len };
-        let lent_word = |at: usize, len: usize| Lent { at: words.wrapping_add(at).cast(), len };
-        let ins = [
-            lent(GUARD, self.ranges),
-            lent(self.p_at(), self.p),
-            lent(self.limit_at(), 1),
-            lent_word(GUARD, self.slots),
-        ];
-        side.call(&ins, lent_word(self.word_at(), 1))
-    }
-
-    /// The place, or the number found.
-    fn word(&self) -> u32 {
-        self.words[self.word_at()]
-    }
-
-    fn slots(&self) -> &[u32] {
-        &self.words[GUARD..][..self.slots]
-    }
-}
-
-impl Trial for Search {
-    fn name(&self) -> &'static str {
-        self.name
-    }
-
-    fn note(&self) -> Option<&str> {
-        self.ours.is_none().then_some("not exported yet")
-    }
-
-    fn cases(&self, count: u64) -> u64 {
-        if self.ours.is_none() { 0 } else { count.max(self.fixed.len() as u64) }
-    }
-
-    /// All is to agree bit for bit: answers hold no numbers that may be NaN.
-    fn agree(&self, case: u64, rng: Rng) -> Option<usize> {
-        let (_, [(judge, expected), (ours, desk)]) = self.make(case, rng);
-        (judge == ours && desk == expected).then(|| self.outcome(judge, &expected))
-    }
-
-    fn describe(&self, case: u64, rng: Rng) -> String {
-        let (given, [(judge, expected), (ours, desk)]) = self.make(case, rng);
-        let list = |numbers: &[f64]| {
-            numbers.iter().map(|number| words::shown(number.to_bits())).collect::<Vec<String>>().join(", ")
-        };
-        let mut text = format!("{}({} numbers, [{}]", self.name, given.ranges.len(), list(&given.p));
-        if self.lists {
-            text += &format!(", {}; {} slots", words::shown(given.limit.to_bits()), given.slots);
-        }
-        text += ")";
-        let answer = |desk: &Desk| match self.lists {
-            true => format!("{} {:?}", desk.word(), desk.slots()),
-            false => format!("{}", desk.word()),
-        };
-        for (i, record) in given.ranges.chunks(RANGE).enumerate() {
-            let square = <&Range>::try_from(record).ok().zip(<&Point>::try_from(&given.p[..]).ok());
-            let square = square.map_or(String::new(), |(r, p)| format!(" squared {:e}", square_to(r, p)));
-            text += &format!("\n      {i} [{}]{square}", list(record));
-        }
-        text += &format!("\n      judge {judge} {}", answer(&expected));
-        text += &format!("\n      ours  {ours} {}", answer(&desk));
-        if desk.numbers != expected.numbers {
-            text += "\n      an input, or a number beside one, was written";
-        }
-        text
-    }
-}
-
 /// Blocks of a farm, and where hail was seen.
 fn farm(case: u64) -> (Vec<Range>, Point) {
     let rng = &mut Rng::at(1, case);
@@ -471,14 +301,59 @@ fn farm(case: u64) -> (Vec<Range>, Point) {
     (blocks, [rng.between(0.0, 1000.0), rng.between(0.0, 1000.0), 0.0])
 }
 
-impl Timed for Search {
+impl Laid for Search {
+    type Given = Given;
+    type Side = dyn Side;
+
+    fn name(&self) -> &'static str {
+        self.name
+    }
+
+    fn drawn(rng: &mut Rng) -> Given {
+        lent(inputs::report(rng), rng)
+    }
+
+    /// The slots, and then the place or the number found.
+    fn lay(Given { ranges, p, limit, slots }: &Given) -> Desk {
+        Desk::new().numbers(ranges).numbers(p).numbers(&[*limit]).slots(*slots).slots(1)
+    }
+
+    fn put(desk: &mut Desk, side: &dyn Side) -> u32 {
+        let [ranges, p, limit] = [0, 1, 2].map(|i| desk.numbers.lent(i));
+        side.call(&[ranges, p, limit, desk.words.lent(0)], desk.words.lent(1))
+    }
+
+    fn outcome(&self, status: u32, desk: &Desk) -> usize {
+        let none = if self.lists { 0 } else { NO_PLACE };
+        match status {
+            0 if desk.words.slice(1) == [none] => Outcome::NONE,
+            0 => Outcome::PLACE,
+            _ => status as usize,
+        }
+    }
+
+    fn shown(&self, given: &Given, judge: (u32, &Desk), ours: (u32, &Desk)) -> String {
+        let mut text = format!("({} numbers, [{}]", given.ranges.len(), words::list(&given.p));
+        if self.lists {
+            text += &format!(", {}; {} slots", words::shown(given.limit.to_bits()), given.slots);
+        }
+        text += ")";
+        for (i, record) in given.ranges.chunks(RANGE).enumerate() {
+            let square = <&Range>::try_from(record).ok().zip(<&Point>::try_from(&given.p[..]).ok());
+            let square = square.map_or(String::new(), |(r, p)| format!(" squared {:e}", square_to(r, p)));
+            text += &format!("\n      {i} [{}]{square}", words::list(record));
+        }
+        text += &format!("\n      judge {} {:?}", judge.0, self.answer(judge.1));
+        text + &format!("\n      ours  {} {:?}", ours.0, self.answer(ours.1))
+    }
+
     /// Two lists of the most ranges are a pass, as many ranges as a pass has
     /// calls elsewhere: the time is of one range of a list.
-    fn timings<'a>(&'a self) -> Vec<Timing<'a>> {
-        let Some(ours) = &self.ours else {
+    fn timings(of: &Both<Search>) -> Vec<Timing<'_>> {
+        let Some(ours) = &of.ours else {
             return vec![];
         };
-        let sets: [(&'static str, usize, bool); 2] = match self.lists {
+        let sets: [(&'static str, usize, bool); 2] = match of.of.lists {
             true => [("a range of 1024, half in", MOST_RANGES / 2, false), ("a range of 1024, 16 in", 16, false)],
             false => [("a range of 1024", 1, false), ("the same, ever nearer", 1, true)],
         };
@@ -496,64 +371,44 @@ impl Timed for Search {
                 [number(blocks.into_flattened()), number(p.to_vec()), number(vec![squares[found - 1]]), listed]
             });
             let lent: &'static [Ins] = lists.collect::<Vec<Ins>>().leak();
-            let pass = |side: &'a dyn Side| {
-                let mut word = 0.0;
-                move || side.pass(black_box(lent), Lent::to_write(slice::from_mut(&mut word)))
-            };
-            Timing { set, ours: Box::new(pass(ours.as_ref())), rust: Box::new(pass(self.rust.as_ref())) }
+            Timing::of(set, [ours, &of.judge].map(|side| (side.as_ref(), lent)), 1)
         };
         sets.map(timing).into()
     }
-}
-
-impl Op for Search {
-    fn code(&self) -> u64 {
-        self.code
-    }
 
     /// The fixed ones of at most three ranges, and drawn ones.
-    fn vectors(&self) -> Vec<Words> {
+    fn recorded(of: &Both<Search>) -> Vec<Given> {
         let drawn = (0..).map(|case| inputs::report(&mut Rng::at(1, case)));
         let drawn = drawn.map(|report| Given::of(&report.ranges, report.p, report.limit));
         let drawn = drawn.filter(Given::is_recorded).take(RECORDED);
-        let recorded = |given: Given| {
-            let (status, desk) = self.judged(&given);
-            let lone: &[f64] = if self.lists { &[given.limit] } else { &[] };
-            let inputs = given.ranges.iter().chain(&given.p).chain(lone);
-            let inputs: Vec<u64> = inputs.map(|number| number.to_bits()).collect();
-            let listed = if self.lists { desk.slots() } else { &[] };
-            let answer: Vec<u64> = [&[desk.word()], listed].concat().into_iter().map(u64::from).collect();
-            words::record(&inputs, status, if status == 0 { &answer } else { &[] })
-        };
-        let fixed = self.fixed.iter().filter(|given| given.is_recorded()).cloned();
-        // Once each, of those that differ in a limit that is not read.
-        let mut all: Vec<Words> = vec![];
-        for words in fixed.chain(drawn).map(recorded) {
-            if !all.contains(&words) {
-                all.push(words);
-            }
-        }
-        all
+        of.fixed.iter().filter(|given| given.is_recorded()).cloned().chain(drawn).collect()
     }
 
-    fn sides(&self) -> Option<[Option<&dyn Side>; 2]> {
-        Some([Some(self.rust.as_ref()), self.ours.as_deref()])
+    /// The limit is given to a list alone.
+    fn words(&self, _: &Given, desk: &Desk) -> (Vec<Vec<u64>>, Vec<u64>) {
+        let given = if self.lists { 0..3 } else { 0..2 };
+        let given = given.map(|i| desk.numbers.slice(i).to_vec()).collect();
+        (given, self.answer(desk).into_iter().map(u64::from).collect())
     }
 
+    fn sides(of: &Both<Search>) -> [Option<&dyn Side>; 2] {
+        [Some(of.judge.as_ref()), of.ours.as_deref()]
+    }
+
+    /// Too many numbers that are no ranges; no ranges; no point; no slots.
     #[cfg(test)]
-    fn refusals(&self) -> Vec<u32> {
-        let three = Given::of(&[UNIT; 3], [0.5; 3], 1.0);
-        // Too many numbers that are no ranges; no ranges; no point; no slots.
-        let mended = [(MOST + 1, 2, 2), (MOST - 1, 2, 2), (18, 2, 2), (18, 3, 2), (18, 3, 3)];
-        let mut answers: Vec<u32> =
-            mended.iter().map(|&(numbers, p, slots)| self.judged(&three.clone().cut(numbers, p, slots)).0).collect();
-        answers.dedup();
-        assert_eq!(answers.pop(), Some(0), "the last has no fault");
-        for case in 0..20_000 {
-            let status = self.judged(&self.given(case, &mut Rng::at(1, case))).0;
-            assert!(status == 0 || answers.contains(&status), "{}: {status} is not met", self.name);
-        }
-        answers
+    fn mended() -> Vec<Given> {
+        let three = || Given::of(&[UNIT; 3], [0.5; 3], 1.0);
+        let lengths = [(MOST + 1, 2, 2), (MOST - 1, 2, 2), (18, 2, 2), (18, 3, 2), (18, 3, 3)];
+        lengths.map(|(numbers, p, slots)| three().cut(numbers, p, slots)).to_vec()
+    }
+}
+
+impl Search {
+    /// The place; or the number found, and the slots.
+    fn answer(&self, desk: &Desk) -> Vec<u32> {
+        let listed = if self.lists { desk.words.slice(0) } else { &[] };
+        [desk.words.slice(1), listed].concat()
     }
 }
 

@@ -6,7 +6,7 @@ use crate::judge;
 use crate::op::Op;
 use crate::scalar::Function::{Narrow, One, Two, Widen};
 use crate::scalar::{Numbers, Scalar};
-use crate::words::{self, Words};
+use crate::words::{self, Record};
 
 pub fn all() -> Vec<Box<dyn Op>> {
     vec![sqrt(), abs(), min(), max(), narrow(), widen(), grid()]
@@ -23,7 +23,7 @@ fn sqrt() -> Box<dyn Op> {
             ("within 4 ulp of 1", |_, rng| [1.0_f64.to_bits() - 4 + rng.below(9), 0]),
             ("subnormal", |_, rng| [inputs::subnormal(rng), 0]),
         ],
-        ..Scalar::new("sqrt", 1, of_archive!(gf_sqrt: fn(x: f64) -> f64).map(One), One(judge::sqrt))
+        ..Scalar::new("sqrt", of_archive!(gf_sqrt: fn(x: f64) -> f64).map(One), One(judge::sqrt))
     })
 }
 
@@ -34,24 +34,18 @@ fn abs() -> Box<dyn Op> {
         systematic: ones(inputs::systematic(11, 52)),
         drawn: |_, rng| [inputs::any(rng), 0],
         sets: vec![("ordinary", |_, rng| [inputs::ordinary(rng), 0])],
-        ..Scalar::new("abs", 2, of_archive!(gf_abs: fn(x: f64) -> f64).map(One), One(judge::abs))
+        ..Scalar::new("abs", of_archive!(gf_abs: fn(x: f64) -> f64).map(One), One(judge::abs))
     })
 }
 
 fn min() -> Box<dyn Op> {
     let ours = of_archive!(gf_min: fn(x: f64, y: f64) -> f64).map(Two);
-    least_or_greatest(
-        Scalar::new("min", 3, ours, Two(judge::min)),
-        |[x, y], rust| if equal(x, y) { x | y } else { rust },
-    )
+    least_or_greatest(Scalar::new("min", ours, Two(judge::min)), |[x, y], rust| if equal(x, y) { x | y } else { rust })
 }
 
 fn max() -> Box<dyn Op> {
     let ours = of_archive!(gf_max: fn(x: f64, y: f64) -> f64).map(Two);
-    least_or_greatest(
-        Scalar::new("max", 4, ours, Two(judge::max)),
-        |[x, y], rust| if equal(x, y) { x & y } else { rust },
-    )
+    least_or_greatest(Scalar::new("max", ours, Two(judge::max)), |[x, y], rust| if equal(x, y) { x & y } else { rust })
 }
 
 /// Equal numbers have the same bits, but for the sign of a zero.
@@ -82,7 +76,7 @@ fn narrow() -> Box<dyn Op> {
             ("to subnormal", |_, rng| [inputs::wide_subnormal(rng), 0]),
             ("any", |_, rng| [inputs::wide(rng), 0]),
         ],
-        ..Scalar::new("narrow", 5, of_archive!(gf_narrow: fn(x: f64) -> f32).map(Narrow), Narrow(judge::narrow))
+        ..Scalar::new("narrow", of_archive!(gf_narrow: fn(x: f64) -> f32).map(Narrow), Narrow(judge::narrow))
     })
 }
 
@@ -93,7 +87,7 @@ fn widen() -> Box<dyn Op> {
         drawn: |case, _| [inputs::narrow_pattern(case), 0],
         every: Some(1 << 32),
         sets: vec![("any", |_, rng| [rng.bits() >> 32, 0]), ("subnormal", |_, rng| [rng.bits() >> 41, 0])],
-        ..Scalar::new("widen", 6, of_archive!(gf_widen: fn(x: f32) -> f64).map(Widen), Widen(judge::widen))
+        ..Scalar::new("widen", of_archive!(gf_widen: fn(x: f32) -> f64).map(Widen), Widen(judge::widen))
     })
 }
 
@@ -101,8 +95,8 @@ fn grid() -> Box<dyn Op> {
     fn on_grid(_: u64, rng: &mut Rng) -> ([f64; 3],) {
         (std::array::from_fn(|_| f64::from_bits(inputs::metres_on_grid(rng))),)
     }
-    call!(7 gf_grid(p: 3) -> [f64; 3] { judge::grid(p) })
-        .timed_against(call!(7 gf_grid(p: 3) -> [f64; 3] { judge::grid_by_round(p) }))
+    call!(gf_grid(p: 3) -> [f64; 3] { judge::grid(p) })
+        .timed_against(call!(gf_grid(p: 3) -> [f64; 3] { judge::grid_by_round(p) }))
         .bit_for_bit()
         .drawn(|case, rng| (inputs::survey_point(case, rng).map(f64::from_bits),))
         .timed("on the grid", on_grid)
@@ -111,14 +105,15 @@ fn grid() -> Box<dyn Op> {
 }
 
 /// Grid points whose three coordinates are one number.
-fn recorded_grid() -> Vec<Words> {
+fn recorded_grid() -> Vec<Record> {
     let notable = inputs::notable_metres().into_iter().chain(inputs::special());
     let drawn = (0..).map(|case| inputs::metres(&mut Rng::at(1, case)));
-    let vector = |x| match judge::grid(&[f64::from_bits(x); 3]) {
-        Ok(whole) => words::record(&[x; 3], 0, &whole.map(f64::to_bits)),
-        Err(refusal) => words::record(&[x; 3], refusal, &[]),
+    let record = |x| {
+        let answer = judge::grid(&[f64::from_bits(x); 3]);
+        let left = answer.unwrap_or_default().map(f64::to_bits).to_vec();
+        Record::new(vec![vec![x; 3]], answer.err().unwrap_or(0), left)
     };
-    notable.chain(drawn).take(words::NUMBERS).map(vector).collect()
+    notable.chain(drawn).take(words::NUMBERS).map(record).collect()
 }
 
 /// Inputs of one number each.

@@ -50,7 +50,7 @@ fn fixed() -> Vec<Plane> {
 
 fn new() -> Box<dyn Op> {
     let fixed = fixed().into_iter().map(|[x, y, z, distance]| ([x, y, z], distance)).collect();
-    call!(206 gf_plane_new(normal: 3; distance: f64) -> [f64; 4] { Ok(of_plane(gf::Plane::new(point(normal), distance))) })
+    call!(gf_plane_new(normal: 3; distance: f64) -> [f64; 4] { Ok(of_plane(gf::Plane::new(point(normal), distance))) })
         .fixed(fixed)
         .drawn(|_, rng| (inputs::normal(rng), inputs::distance(rng)))
         .timed("ordinary", |_, rng| (inputs::ordinary_point(rng), rng.between(-9.0, 9.0)))
@@ -71,7 +71,7 @@ fn from_points() -> Box<dyn Op> {
         ([0.0; 3], [1e200, 0.0, 0.0], [0.0, 1e200, 0.0]),
         ([NAN, 0.0, 0.0], [1.0, 0.0, 0.0], [0.0, 1.0, 0.0]),
     ];
-    call!(207 gf_plane_from_points(p0: 3, p1: 3, p2: 3) -> [f64; 4] {
+    call!(gf_plane_from_points(p0: 3, p1: 3, p2: 3) -> [f64; 4] {
         Ok(of_plane(gf::Plane::from_points(point(p0), point(p1), point(p2))))
     })
     .fixed(fixed)
@@ -81,7 +81,7 @@ fn from_points() -> Box<dyn Op> {
 }
 
 fn from_equation() -> Box<dyn Op> {
-    call!(208 gf_plane_from_equation(equation: 4) -> [f64; 4] {
+    call!(gf_plane_from_equation(equation: 4) -> [f64; 4] {
         Ok(of_plane(gf::Plane::from_equation(homogeneous(equation))))
     })
     .fixed(fixed().into_iter().chain(normals().into_iter().map(|v| inputs::plane_of(v, 7.0))).map(|e| (e,)).collect())
@@ -111,7 +111,7 @@ fn fixed_points() -> Vec<(Plane, Point)> {
 }
 
 fn distance() -> Box<dyn Op> {
-    call!(209 gf_plane_distance(given: 4, p: 3) -> f64 { Ok(plane(given).distance(point(p))) })
+    call!(gf_plane_distance(given: 4, p: 3) -> f64 { Ok(plane(given).distance(point(p))) })
         .fixed(fixed_points())
         .drawn(|_, rng| inputs::plane_and_point(rng))
         .timed("ordinary", |_, rng| (inputs::ordinary_plane(rng), inputs::ordinary_point(rng)))
@@ -119,7 +119,7 @@ fn distance() -> Box<dyn Op> {
 }
 
 fn on_positive_side() -> Box<dyn Op> {
-    call!(210 gf_plane_on_positive_side(given: 4, p: 3) -> bool { Ok(plane(given).on_positive_side(point(p))) })
+    call!(gf_plane_on_positive_side(given: 4, p: 3) -> bool { Ok(plane(given).on_positive_side(point(p))) })
         .fixed(fixed_points())
         .drawn(|_, rng| inputs::plane_and_point(rng))
         .timed("ordinary", |_, rng| (inputs::ordinary_plane(rng), inputs::ordinary_point(rng)))
@@ -141,7 +141,7 @@ fn transformed() -> Box<dyn Op> {
         [first(1e-12), first(2e-12), first(1e-13), [NAN; 16], [0.0; 16], diagonal([1e200, 1e200, 1e200, 1.0])];
     fixed.extend(matrices.map(|m| (given, m)));
     fixed.extend([(given, diagonal([1e12, 1e12, 1e12, 1.0])), (given, with(IDENTITY, &[(3, 1.0), (15, 2.0)]))]);
-    call!(211 gf_plane_transformed(given: 4, m: 16) -> [f64; 4] {
+    call!(gf_plane_transformed(given: 4, m: 16) -> [f64; 4] {
         Ok(of_plane(plane(given).transformed(matrix(m)).ok_or(SINGULAR)?))
     })
     .fixed(fixed)

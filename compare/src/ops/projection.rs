@@ -25,7 +25,7 @@ fn build() -> Box<dyn Op> {
         fixed.extend([of(&[(5, 0.0)]), of(&[(6, FAR)]), of(&[(6, 1e308), (5, 1e308)]), of(&[(3, NAN)])]);
         fixed.extend([of(&[(1, -1e308), (2, 1e308)]), of(&[(5, 1e200), (6, 1e201)]), of(&[(1, -0.7)])]);
     }
-    call!(216 gf_projection_matrix(given: 7) -> [f64; 16] { Ok(projection(given)?.matrix().0) })
+    call!(gf_projection_matrix(given: 7) -> [f64; 16] { Ok(projection(given)?.matrix().0) })
         .fixed(fixed)
         .drawn(|_, rng| (inputs::projection(rng),))
         .timed("ordinary", |_, rng| (inputs::ordinary_projection(rng),))
@@ -52,7 +52,7 @@ fn recover() -> Box<dyn Op> {
     for off in [-1e-6 + 5e-13, 1e-6 + 5e-13, -1e-6 - 5e-13, 1e-6 + 2e-12] {
         fixed.push(inputs::far_window(off, 1.0));
     }
-    call!(217 gf_projection_from_matrix(m: 16) -> [f64; 7] {
+    call!(gf_projection_from_matrix(m: 16) -> [f64; 7] {
         Ok(of_projection(gf::ProjectionParams::from_matrix(matrix(m)).ok_or(NO_PROJECTION)?))
     })
     .fixed(fixed.into_iter().map(|m| (m,)).collect())

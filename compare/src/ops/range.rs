@@ -54,7 +54,7 @@ fn fixed_pairs() -> Vec<(Range, Range)> {
 }
 
 fn is_empty() -> Box<dyn Op> {
-    call!(110 gf_range_is_empty(r: 6) -> bool { Ok(range(r).is_empty()) })
+    call!(gf_range_is_empty(r: 6) -> bool { Ok(range(r).is_empty()) })
         .fixed(fixed().into_iter().map(|r| (r,)).collect())
         .drawn(|_, rng| (inputs::range(rng),))
         .timed("ordinary", |_, rng| (inputs::ordinary_range(rng),))
@@ -62,8 +62,8 @@ fn is_empty() -> Box<dyn Op> {
 }
 
 fn union() -> Box<dyn Op> {
-    call!(111 gf_range_union(a: 6, b: 6) -> [f64; 6] { Ok(signs::union(a, b)) })
-        .timed_against(call!(111 gf_range_union(a: 6, b: 6) -> [f64; 6] { Ok(of_range(range(a).union(range(b)))) }))
+    call!(gf_range_union(a: 6, b: 6) -> [f64; 6] { Ok(signs::union(a, b)) })
+        .timed_against(call!(gf_range_union(a: 6, b: 6) -> [f64; 6] { Ok(of_range(range(a).union(range(b)))) }))
         .fixed(fixed_pairs())
         .drawn(|_, rng| inputs::two_ranges(rng))
         .timed("ordinary", |_, rng| (inputs::ordinary_range(rng), inputs::ordinary_range(rng)))
@@ -72,9 +72,8 @@ fn union() -> Box<dyn Op> {
 }
 
 fn intersection() -> Box<dyn Op> {
-    let rust =
-        call!(112 gf_range_intersection(a: 6, b: 6) -> [f64; 6] { Ok(of_range(range(a).intersection(range(b)))) });
-    call!(112 gf_range_intersection(a: 6, b: 6) -> [f64; 6] { Ok(signs::intersection(a, b)) })
+    let rust = call!(gf_range_intersection(a: 6, b: 6) -> [f64; 6] { Ok(of_range(range(a).intersection(range(b)))) });
+    call!(gf_range_intersection(a: 6, b: 6) -> [f64; 6] { Ok(signs::intersection(a, b)) })
         .timed_against(rust)
         .fixed(fixed_pairs())
         .drawn(|_, rng| inputs::two_ranges(rng))
@@ -84,7 +83,7 @@ fn intersection() -> Box<dyn Op> {
 }
 
 fn midpoint() -> Box<dyn Op> {
-    call!(113 gf_range_midpoint(r: 6) -> [f64; 3] { Ok(range(r).midpoint().into()) })
+    call!(gf_range_midpoint(r: 6) -> [f64; 3] { Ok(range(r).midpoint().into()) })
         .fixed(fixed().into_iter().map(|r| (r,)).collect())
         .drawn(|_, rng| (inputs::range(rng),))
         .timed("ordinary", |_, rng| (inputs::ordinary_range(rng),))
@@ -104,7 +103,7 @@ fn distance_squared() -> Box<dyn Op> {
         (with(UNIT, &[(0, 5.0)]), [3.0, 0.0, 0.0]),
         (with(UNIT, &[(0, 5.0)]), [4.5, 0.0, 0.0]),
     ]);
-    call!(114 gf_range_distance_squared(r: 6, p: 3) -> f64 { Ok(range(r).distance_squared(point(p))) })
+    call!(gf_range_distance_squared(r: 6, p: 3) -> f64 { Ok(range(r).distance_squared(point(p))) })
         .fixed(fixed)
         .drawn(|_, rng| inputs::range_and_point(rng))
         .timed("ordinary", |_, rng| (inputs::ordinary_range(rng), inputs::ordinary_point(rng)))
@@ -130,9 +129,8 @@ fn transformed() -> Box<dyn Op> {
             [1.0, 1.0, 1.0, 0.0, 1.0, 1.0, 1.0, 0.0, 1.0, 1.0, 1.0, 0.0, -0.0, -0.0, -0.0, 1.0],
         ),
     ]);
-    let rust =
-        call!(115 gf_range_transformed(r: 6, m: 16) -> [f64; 6] { Ok(of_range(range(r).transformed(matrix(m)))) });
-    call!(115 gf_range_transformed(r: 6, m: 16) -> [f64; 6] { Ok(signs::transformed(r, m)) })
+    let rust = call!(gf_range_transformed(r: 6, m: 16) -> [f64; 6] { Ok(of_range(range(r).transformed(matrix(m)))) });
+    call!(gf_range_transformed(r: 6, m: 16) -> [f64; 6] { Ok(signs::transformed(r, m)) })
         .timed_against(rust)
         .fixed(fixed)
         .drawn(|_, rng| inputs::range_and_matrix(rng))
@@ -143,7 +141,7 @@ fn transformed() -> Box<dyn Op> {
 }
 
 fn corners() -> Box<dyn Op> {
-    call!(116 gf_range_corners(r: 6) -> [f64; 24] { Ok(of_corners(range(r).corners())) })
+    call!(gf_range_corners(r: 6) -> [f64; 24] { Ok(of_corners(range(r).corners())) })
         .fixed(fixed().into_iter().map(|r| (r,)).collect())
         .drawn(|_, rng| (inputs::range(rng),))
         .timed("ordinary", |_, rng| (inputs::ordinary_range(rng),))

@@ -16,7 +16,7 @@ const FAR: f64 = f64::INFINITY;
 fn ray_point() -> Box<dyn Op> {
     let oblique = ray_of([1.0, 2.0, 3.0], [0.1, -0.7, 0.3]);
     let distances = [0.0, -0.0, 1.0, 3.0, -2.0, 1e-310, 1e308, FAR, NAN];
-    call!(212 gf_ray_point(given: 6; distance: f64) -> [f64; 3] { Ok(ray(given).point(distance).into()) })
+    call!(gf_ray_point(given: 6; distance: f64) -> [f64; 3] { Ok(ray(given).point(distance).into()) })
         .fixed(distances.map(|distance| (oblique, distance)).into())
         .drawn(|_, rng| (inputs::ray(rng), inputs::distance(rng)))
         .timed("ordinary", |_, rng| (inputs::ordinary_ray(rng), rng.between(0.0, 9.0)))
@@ -27,7 +27,7 @@ fn transformed() -> Box<dyn Op> {
     let oblique = ray_of([1.0, 2.0, 3.0], [0.1, -0.7, 0.3]);
     let w = |x: f64| with(IDENTITY, &[(12, 2.0), (15, x)]);
     let matrices = [w(1.0), w(3.0), w(0.0), w(-0.0), w(5e-324), w(FAR), [NAN; 16]];
-    call!(213 gf_ray_transformed(given: 6, m: 16) -> [f64; 6] { Ok(of_ray(ray(given).transformed(matrix(m)))) })
+    call!(gf_ray_transformed(given: 6, m: 16) -> [f64; 6] { Ok(of_ray(ray(given).transformed(matrix(m)))) })
         .fixed(matrices.map(|m| (oblique, m)).into())
         .drawn(|_, rng| {
             let (m, start) = inputs::matrix_and_point(rng);
@@ -77,7 +77,7 @@ fn intersect_plane() -> Box<dyn Op> {
         (down(5.0, -1.0), [0.0, 0.0, 1.0, NAN]),
         (down(5.0, -1.0), [0.0, 0.0, 1.0, -FAR]),
     ];
-    call!(214 gf_ray_intersect_plane(given: 6, on: 4) -> [f64; 2] {
+    call!(gf_ray_intersect_plane(given: 6, on: 4) -> [f64; 2] {
         let (distance, front) = ray(given).intersect_plane(&plane(on)).ok_or(MISS)?;
         Ok([distance, front.into()])
     })
@@ -134,7 +134,7 @@ fn intersect_triangle() -> Box<dyn Op> {
         (down, [[NAN, 0.0, 0.0], [1.0, 0.0, 0.0], [0.0, 1.0, 0.0]]),
         (down, [[-1e200, 0.0, 0.0], [1e200, 0.0, 0.0], [0.0, 1e200, 0.0]]),
     ]);
-    call!(215 gf_ray_intersect_triangle(given: 6, p0: 3, p1: 3, p2: 3) -> [f64; 5] {
+    call!(gf_ray_intersect_triangle(given: 6, p0: 3, p1: 3, p2: 3) -> [f64; 5] {
         let hit = ray(given).intersect_triangle(point(p0), point(p1), point(p2)).ok_or(MISS)?;
         let [gamma, alpha, beta] = hit.barycentric.into();
         Ok([hit.distance, gamma, alpha, beta, hit.front_facing.into()])

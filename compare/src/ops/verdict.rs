@@ -99,20 +99,20 @@ fn of_point() -> Call<(Volume, Point)> {
     let (overflows, far, _) = overflowing_point();
     let more = more.into_iter().chain([(overflows, far)]);
     let struck = struck_volumes().into_iter().flat_map(|volume| [[5.0; 3], [-1.0, 5.0, 5.0]].map(|p| (volume, p)));
-    let six =
-        call!(218 gf_intersects_point(volume: 49, p: 3) -> bool { Ok(planes(volume).intersects_point(point(p))) });
-    let six_tested = call!(218 gf_intersects_point(volume: 49, p: 3) -> bool {
+    let six = call!(gf_intersects_point(volume: 49, p: 3) -> bool { Ok(planes(volume).intersects_point(point(p))) });
+    let six_tested = call!(gf_intersects_point(volume: 49, p: 3) -> bool {
         (finite(volume)?, finite(p)?);
         Ok(planes(volume).intersects_point(point(p)))
     });
-    let many = call!(218 gf_intersects_point(volume: Volume, p: 3) -> bool { Ok(point_seen(volume, count_by_length(volume), p)) });
-    let many_tested = call!(218 gf_intersects_point(volume: Volume, p: 3) -> bool {
+    let many =
+        call!(gf_intersects_point(volume: Volume, p: 3) -> bool { Ok(point_seen(volume, count_by_length(volume), p)) });
+    let many_tested = call!(gf_intersects_point(volume: Volume, p: 3) -> bool {
         (finite(volume)?, finite(p)?);
         Ok(point_seen(volume, count_by_length(volume), p))
     });
     let mut mended_points = mended().map(|volume| (volume, [5.0, 5.0, NAN])).to_vec();
     mended_points.push((Volume::of(CUBE), [5.0; 3]));
-    call!(218 gf_intersects_point(volume: Volume, p: 3) -> bool {
+    call!(gf_intersects_point(volume: Volume, p: 3) -> bool {
         let count = held(volume)?;
         (finite(volume)?, finite(p)?);
         Ok(point_seen(volume, count, p))
@@ -193,21 +193,21 @@ fn of_segment() -> Call<(Volume, Point, Point)> {
     let struck = struck_volumes().into_iter().flat_map(|volume| lines.map(|(p0, p1)| (volume, p0, p1)));
     let mut mended_lines = mended().map(|volume| (volume, [-5.0, 5.0, 5.0], [5.0, 5.0, FAR])).to_vec();
     mended_lines.push((Volume::of(CUBE), [-5.0, 5.0, 5.0], [5.0; 3]));
-    let by_six = call!(219 gf_intersects_segment(volume: 49, p0: 3, p1: 3) -> bool {
+    let by_six = call!(gf_intersects_segment(volume: 49, p0: 3, p1: 3) -> bool {
         Ok(planes(volume).intersects_segment(point(p0), point(p1)))
     });
-    let by_six_tested = call!(219 gf_intersects_segment(volume: 49, p0: 3, p1: 3) -> bool {
+    let by_six_tested = call!(gf_intersects_segment(volume: 49, p0: 3, p1: 3) -> bool {
         (finite(volume)?, finite(p0)?, finite(p1)?);
         Ok(planes(volume).intersects_segment(point(p0), point(p1)))
     });
-    let by_many = call!(219 gf_intersects_segment(volume: Volume, p0: 3, p1: 3) -> bool {
+    let by_many = call!(gf_intersects_segment(volume: Volume, p0: 3, p1: 3) -> bool {
         Ok(segment_seen(volume, count_by_length(volume), p0, p1))
     });
-    let by_many_tested = call!(219 gf_intersects_segment(volume: Volume, p0: 3, p1: 3) -> bool {
+    let by_many_tested = call!(gf_intersects_segment(volume: Volume, p0: 3, p1: 3) -> bool {
         (finite(volume)?, finite(p0)?, finite(p1)?);
         Ok(segment_seen(volume, count_by_length(volume), p0, p1))
     });
-    call!(219 gf_intersects_segment(volume: Volume, p0: 3, p1: 3) -> bool {
+    call!(gf_intersects_segment(volume: Volume, p0: 3, p1: 3) -> bool {
         let count = held(volume)?;
         (finite(volume)?, finite(p0)?, finite(p1)?);
         Ok(segment_seen(volume, count, p0, p1))
@@ -280,17 +280,17 @@ fn of_triangle() -> Call<(Volume, Point, Point, Point)> {
     let struck = struck_volumes().into_iter().flat_map(|volume| asked.map(|[a, b, c]| (volume, a, b, c)));
     let mut mended_triangles = mended().map(|volume| (volume, [5.0; 3], [6.0; 3], [7.0, NAN, 7.0])).to_vec();
     mended_triangles.push((Volume::of(CUBE), [5.0; 3], [6.0; 3], [7.0; 3]));
-    let by_six = call!(220 gf_intersects_triangle(volume: 49, p0: 3, p1: 3, p2: 3) -> bool {
+    let by_six = call!(gf_intersects_triangle(volume: 49, p0: 3, p1: 3, p2: 3) -> bool {
         Ok(triangle_seen(volume, 6, p0, p1, p2))
     });
-    let by_six_tested = call!(220 gf_intersects_triangle(volume: 49, p0: 3, p1: 3, p2: 3) -> bool {
+    let by_six_tested = call!(gf_intersects_triangle(volume: 49, p0: 3, p1: 3, p2: 3) -> bool {
         (finite(volume)?, finite(p0)?, finite(p1)?, finite(p2)?);
         Ok(triangle_seen(volume, 6, p0, p1, p2))
     });
-    let by_many = call!(220 gf_intersects_triangle(volume: Volume, p0: 3, p1: 3, p2: 3) -> bool {
+    let by_many = call!(gf_intersects_triangle(volume: Volume, p0: 3, p1: 3, p2: 3) -> bool {
         Ok(triangle_seen(volume, count_by_length(volume), p0, p1, p2))
     });
-    call!(220 gf_intersects_triangle(volume: Volume, p0: 3, p1: 3, p2: 3) -> bool {
+    call!(gf_intersects_triangle(volume: Volume, p0: 3, p1: 3, p2: 3) -> bool {
         let count = held(volume)?;
         (finite(volume)?, finite(p0)?, finite(p1)?, finite(p2)?);
         Ok(triangle_seen(volume, count, p0, p1, p2))
@@ -422,14 +422,15 @@ fn of_box() -> Call<(Volume, Boxed)> {
         (Volume::of(six), b)
     };
     let six =
-        || call!(221 gf_intersects_bbox(volume: 49, b: 23) -> bool { Ok(planes(volume).intersects_bbox(&boxed(b)?)) });
-    let six_tested = call!(221 gf_intersects_bbox(volume: 49, b: 23) -> bool {
+        || call!(gf_intersects_bbox(volume: 49, b: 23) -> bool { Ok(planes(volume).intersects_bbox(&boxed(b)?)) });
+    let six_tested = call!(gf_intersects_bbox(volume: 49, b: 23) -> bool {
         (finite(volume)?, finite(b)?);
         Ok(planes(volume).intersects_bbox(&boxed(b)?))
     });
-    let many = call!(221 gf_intersects_bbox(volume: Volume, b: 23) -> bool { box_seen(volume, count_by_length(volume), b, false) });
-    let many_tested = call!(221 gf_intersects_bbox(volume: Volume, b: 23) -> bool { box_seen(volume, count_by_length(volume), b, true) });
-    call!(221 gf_intersects_bbox(volume: Volume, b: 23) -> bool { box_seen(volume, held(volume)?, b, true) })
+    let many = call!(gf_intersects_bbox(volume: Volume, b: 23) -> bool { box_seen(volume, count_by_length(volume), b, false) });
+    let many_tested =
+        call!(gf_intersects_bbox(volume: Volume, b: 23) -> bool { box_seen(volume, count_by_length(volume), b, true) });
+    call!(gf_intersects_bbox(volume: Volume, b: 23) -> bool { box_seen(volume, held(volume)?, b, true) })
         .fixed(asked_boxes())
         .tried(super::exact_box::parted())
         .tried(told_boxes())
@@ -583,9 +584,9 @@ fn of_view_volume() -> Call<(Boxed, Matrix)> {
         (box_of(UNIT, IDENTITY, 0.5), IDENTITY),
         (moved(5.0), perspective),
     ];
-    let untested = call!(222 gf_intersects_view_volume(b: 23, m: 16) -> bool { clip_seen(b, m) });
+    let untested = call!(gf_intersects_view_volume(b: 23, m: 16) -> bool { clip_seen(b, m) });
     let timed = |_, rng: &mut inputs::Rng| (inputs::ordinary_box(rng), perspective_view(rng));
-    call!(222 gf_intersects_view_volume(b: 23, m: 16) -> bool {
+    call!(gf_intersects_view_volume(b: 23, m: 16) -> bool {
         let placed = boxed_without_inverse(b)?;
         (finite(b)?, finite(m)?);
         Ok(gf::Frustum::intersects_view_volume(&placed, matrix(m)))

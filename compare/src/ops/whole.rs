@@ -5,22 +5,19 @@
 mod slips;
 
 use super::verdict::segment_seen;
+use crate::desk::{Both, Desk, Laid, seen};
 use crate::exact;
 use crate::exported::of_archive;
 use crate::inputs::{
     self, COORDINATE, DISTANCE, EXTREMES, NORMAL, PLANES_TRIED, Rng, TOO_MANY, WHOLE_COUNTS, WHOLE_CUBE, Whole,
-    WholeAsked, WholePlane, farm_volume, floats, mixed, on_grid, whole_length,
+    WholeAsked, WholePlane, farm_volume, floats, on_grid, whole_length,
 };
 use crate::judge::{FEWEST_PLANES, MOST_PLANES, NO_COUNT, OFF_GRID, WRONG_INPUT};
 use crate::lent::{Ins, Lent, Pointer, Side};
-use crate::op::{Op, Timed, Timing};
-use crate::trial::{Outcome, Trial};
-use crate::words::{self, Words};
-use std::hint::black_box;
-use std::slice;
+use crate::op::{Op, Timing};
 
 pub fn all() -> Vec<Box<dyn Op>> {
-    vec![Box::new(Engine::of_archive())]
+    vec![Box::new(of_archive())]
 }
 
 /// The planes and the ends of what is lent, if nothing refuses it.
@@ -116,101 +113,50 @@ type OurFloats = unsafe extern "C" fn(*const f64, usize, *const f64, usize, *con
 // What a side is lent, in this order: the view and the two ends, as i32; then
 // the verdict, as u32.
 
-fn of_whole(numbers: &[i32]) -> Lent {
-    Lent { at: numbers.as_ptr().cast_mut().cast(), len: numbers.len() }
-}
-
 /// What is lent for an input, as the harness hands it on.
 pub fn whole_lent(asked: &WholeAsked) -> Ins {
-    [of_whole(&asked.view), of_whole(&asked.p0), of_whole(&asked.p1), Lent::NONE]
-}
-
-unsafe fn wholes<'a>(lent: Lent) -> &'a [i32] {
-    unsafe { slice::from_raw_parts(lent.at.cast(), lent.len) }
-}
-
-unsafe fn verdict<'a>(lent: Lent) -> &'a mut u32 {
-    unsafe { &mut *lent.at.cast() }
+    [Lent::wholes(&asked.view), Lent::wholes(&asked.p0), Lent::wholes(&asked.p1), Lent::NONE]
 }
 
 fn rust_side(f: Rust) -> Box<dyn Side> {
     Box::new(Pointer(f, |f: Rust, &[view, p0, p1, _]: &Ins, out: Lent| unsafe {
-        f(wholes(view), wholes(p0), wholes(p1), verdict(out))
+        f(view.whole_slice(), p0.whole_slice(), p1.whole_slice(), out.word())
     }))
 }
 
-/// Both sides, what ours is timed against, and what is always tried.
+/// What ours is timed against.
 struct Engine {
-    ours: Option<Box<dyn Side>>,
-    judge: Box<dyn Side>,
     plain: Box<dyn Side>,
     our_floats: Option<Box<dyn Side>>,
-    fixed: Vec<WholeAsked>,
 }
 
 // What is lent is as long as it says, and is not lent twice.
-impl Engine {
-    fn of_archive() -> Engine {
-        let ours: Option<Ours> = of_archive!(
-            gf_whole_intersects_segment:
-                fn(_: *const i32, _: usize, _: *const i32, _: usize, _: *const i32, _: usize, _: *mut u32) -> u32
-        );
-        Engine::of(ours.map(|f| -> Box<dyn Side> {
-            Box::new(Pointer(f, |f: Ours, &[view, p0, p1, _]: &Ins, out: Lent| unsafe {
-                let at = |lent: Lent| lent.at.cast_const().cast();
-                f(at(view), view.len, at(p0), p0.len, at(p1), p1.len, out.at.cast())
-            }))
+
+fn of_archive() -> Both<Engine> {
+    let ours: Option<Ours> = of_archive!(
+        gf_whole_intersects_segment:
+            fn(_: *const i32, _: usize, _: *const i32, _: usize, _: *const i32, _: usize, _: *mut u32) -> u32
+    );
+    by(ours.map(|f| -> Box<dyn Side> {
+        Box::new(Pointer(f, |f: Ours, &[view, p0, p1, _]: &Ins, out: Lent| unsafe {
+            let at = |lent: Lent| lent.at.cast_const().cast();
+            f(at(view), view.len, at(p0), p0.len, at(p1), p1.len, out.at.cast())
         }))
-    }
-
-    fn of(ours: Option<Box<dyn Side>>) -> Engine {
-        let floats: Option<OurFloats> = of_archive!(
-            gf_intersects_segment:
-                fn(_: *const f64, _: usize, _: *const f64, _: usize, _: *const f64, _: usize, _: *mut u32) -> u32
-        );
-        let our_floats = floats.map(|f| -> Box<dyn Side> {
-            Box::new(Pointer(f, |f: OurFloats, &[volume, p0, p1, _]: &Ins, out: Lent| unsafe {
-                let at = |lent: Lent| lent.at.cast_const();
-                f(at(volume), volume.len, at(p0), p0.len, at(p1), p1.len, out.at.cast())
-            }))
-        });
-        Engine { ours, judge: rust_side(judge), plain: rust_side(plain), our_floats, fixed: fixed() }
-    }
-
-    fn asked(&self, case: u64, rng: &mut Rng) -> WholeAsked {
-        match self.fixed.get(case as usize) {
-            Some(asked) => asked.clone(),
-            None => inputs::whole_asked(rng),
-        }
-    }
-
-    /// Puts one case to both sides: for the judge and ours what was answered
-    /// and all that is left.
-    fn make(&self, case: u64, mut rng: Rng) -> (WholeAsked, [(u32, Desk); 2]) {
-        let asked = self.asked(case, &mut rng);
-        let before = Desk::new(&asked);
-        let made = [Some(&self.judge), self.ours.as_ref()].map(|side| {
-            let mut desk = before.clone();
-            let status = desk.put_to(side.expect("exported").as_ref());
-            (status, desk)
-        });
-        (asked, made)
-    }
-
-    /// What the judge answers, and what it leaves.
-    fn judged(&self, asked: &WholeAsked) -> (u32, Desk) {
-        let mut desk = Desk::new(asked);
-        let status = desk.put_to(self.judge.as_ref());
-        (status, desk)
-    }
+    }))
 }
 
-fn outcome(status: u32, desk: &Desk) -> usize {
-    match status {
-        0 if desk.verdict() == 1 => Outcome::YES,
-        0 => Outcome::NO,
-        _ => status as usize,
-    }
+fn by(ours: Option<Box<dyn Side>>) -> Both<Engine> {
+    let floats: Option<OurFloats> = of_archive!(
+        gf_intersects_segment:
+            fn(_: *const f64, _: usize, _: *const f64, _: usize, _: *const f64, _: usize, _: *mut u32) -> u32
+    );
+    let our_floats = floats.map(|f| -> Box<dyn Side> {
+        Box::new(Pointer(f, |f: OurFloats, &[volume, p0, p1, _]: &Ins, out: Lent| unsafe {
+            let at = |lent: Lent| lent.at.cast_const();
+            f(at(volume), volume.len, at(p0), p0.len, at(p1), p1.len, out.at.cast())
+        }))
+    });
+    Both { of: Engine { plain: rust_side(plain), our_floats }, ours, judge: rust_side(judge), fixed: fixed() }
 }
 
 /// What the Rust's floats say, of what is accepted.
@@ -225,7 +171,7 @@ fn both_ways(planes: &[WholePlane], p0: Whole, p1: Whole) -> [WholeAsked; 2] {
 }
 
 /// The cube with further planes behind it, a little further out.
-fn cube_of(count: usize) -> Vec<WholePlane> {
+pub(super) fn cube_of(count: usize) -> Vec<WholePlane> {
     let further = |i: usize| WholePlane { distance: WHOLE_CUBE[i % 6].distance - 1, ..WHOLE_CUBE[i % 6] };
     (0..count).map(|i| if i < 6 { WHOLE_CUBE[i] } else { further(i) }).collect()
 }
@@ -348,87 +294,6 @@ fn at_the_limits() -> Vec<WholeAsked> {
     all
 }
 
-/// What a call is lent, and beside it what nobody may write.
-#[derive(Clone, PartialEq)]
-struct Desk {
-    words: Vec<i32>,
-    /// The lengths of the view and the ends.
-    len: [usize; 3],
-}
-
-/// How much is beside each; an odd number, so that an i32 lies at any
-/// alignment that it may.
-const GUARD: usize = 5;
-
-impl Desk {
-    fn new(asked: &WholeAsked) -> Desk {
-        let slices = [&asked.view, &asked.p0, &asked.p1];
-        let len = slices.map(|numbers| numbers.len());
-        let words = (0..(len.iter().sum::<usize>() + 1 + 5 * GUARD) as u64).map(|i| mixed(!i) as i32).collect();
-        let mut desk = Desk { words, len };
-        for (i, numbers) in slices.into_iter().enumerate() {
-            let at = desk.at(i);
-            desk.words[at..][..numbers.len()].copy_from_slice(numbers);
-        }
-        desk
-    }
-
-    /// Where the view, the ends and the verdict are lent.
-    fn at(&self, i: usize) -> usize {
-        self.len[..i].iter().sum::<usize>() + (i + 1) * GUARD
-    }
-
-    fn put_to(&mut self, side: &dyn Side) -> u32 {
-        let at = [0, 1, 2, 3].map(|i| self.at(i));
-        let words = self.words.as_mut_ptr();
-        let lent = |i: usize, len: usize| Lent { at: words.wrapping_add(at[i]).cast(), len };
-        let ins = [lent(0, self.len[0]), lent(1, self.len[1]), lent(2, self.len[2]), Lent::NONE];
-        side.call(&ins, lent(3, 1))
-    }
-
-    fn verdict(&self) -> i32 {
-        self.words[self.at(3)]
-    }
-}
-
-impl Trial for Engine {
-    fn name(&self) -> &'static str {
-        "whole_intersects_segment"
-    }
-
-    fn note(&self) -> Option<&str> {
-        self.ours.is_none().then_some("not exported yet")
-    }
-
-    fn cases(&self, count: u64) -> u64 {
-        if self.ours.is_none() { 0 } else { count.max(self.fixed.len() as u64) }
-    }
-
-    /// All is to agree bit for bit, and the Rust's floats are to say the same.
-    fn agree(&self, case: u64, rng: Rng) -> Option<usize> {
-        let (asked, [(judge, expected), (ours, desk)]) = self.make(case, rng);
-        let floats = of_floats(&asked).map(i32::from);
-        let agreed = floats.is_none_or(|verdict| verdict == expected.verdict());
-        (judge == ours && desk == expected && agreed).then(|| outcome(judge, &expected))
-    }
-
-    fn describe(&self, case: u64, rng: Rng) -> String {
-        let (asked, [(judge, expected), (ours, desk)]) = self.make(case, rng);
-        let mut text = format!("{}({:?}, {:?}, {:?})", self.name(), asked.view, asked.p0, asked.p1);
-        text += &format!("\n      judge  {judge} {}", expected.verdict());
-        text += &format!("\n      ours   {ours} {}", desk.verdict());
-        if let Some(verdict) = of_floats(&asked) {
-            text += &format!("\n      floats 0 {}", u32::from(verdict));
-        }
-        let [mut left, mut meant] = [desk, expected].map(|desk| desk.words);
-        (left.remove(Desk::new(&asked).at(3)), meant.remove(Desk::new(&asked).at(3)));
-        if left != meant {
-            text += "\n      an input, or a number beside one, was written";
-        }
-        text
-    }
-}
-
 /// What a pass puts to the engines: in whole numbers, and the same as floats.
 fn timed(count: usize) -> [&'static [Ins]; 2] {
     let asked: &'static [WholeAsked] = (0..Timing::CALLS as u64)
@@ -444,22 +309,83 @@ fn timed(count: usize) -> [&'static [Ins]; 2] {
     [whole.leak(), asked.iter().map(of_floats).collect::<Vec<Ins>>().leak()]
 }
 
-impl Timed for Engine {
+/// Whether a view is among the recorded answers, should it be listed there: of
+/// the right length or at least two away from it. A replay tries one number less
+/// and one more.
+pub(super) fn view_is_recorded(view: &[i32]) -> bool {
+    let right = usize::try_from(view.first().copied().unwrap_or(0)).ok().map(whole_length);
+    let apart = right.is_none_or(|right| right == view.len() || right.abs_diff(view.len()) > 1);
+    apart && (26..=whole_length(PLANES_TRIED)).contains(&(view.len() + 1))
+}
+
+/// Some of those that are fixed, evenly, and of the refusals a few each.
+pub(super) fn some_of<L: Laid>(of: &Both<L>, fixed: &[&L::Given]) -> Vec<L::Given> {
+    let refused = |refusal: u32| {
+        let refused = fixed.iter().filter(move |given| of.judged(given).0 == refusal);
+        refused.step_by(17).take(4)
+    };
+    let refused = [WRONG_INPUT, NO_COUNT, OFF_GRID].into_iter().flat_map(refused);
+    fixed.iter().step_by(fixed.len() / 24).chain(refused).map(|&given| given.clone()).collect()
+}
+
+/// Slices of whole numbers, and a verdict.
+pub(super) fn whole_words(desk: &Desk, inputs: usize) -> (Vec<Vec<u64>>, Vec<u64>) {
+    let words = |i: usize| desk.words.slice(i).iter().map(|&word| word.into()).collect();
+    ((0..inputs).map(words).collect(), words(inputs))
+}
+
+impl Laid for Engine {
+    type Given = WholeAsked;
+    type Side = dyn Side;
+
+    fn name(&self) -> &'static str {
+        "whole_intersects_segment"
+    }
+
+    fn drawn(rng: &mut Rng) -> WholeAsked {
+        inputs::whole_asked(rng)
+    }
+
+    fn lay(asked: &WholeAsked) -> Desk {
+        Desk::new().wholes(&asked.view).wholes(&asked.p0).wholes(&asked.p1).slots(1)
+    }
+
+    fn put(desk: &mut Desk, side: &dyn Side) -> u32 {
+        let [view, p0, p1, out] = [0, 1, 2, 3].map(|i| desk.words.lent(i));
+        side.call(&[view, p0, p1, Lent::NONE], out)
+    }
+
+    fn outcome(&self, status: u32, desk: &Desk) -> usize {
+        seen(status, desk.words.slice(3) == [1])
+    }
+
+    /// The Rust's floats are to say the same.
+    fn agrees(&self, asked: &WholeAsked, _: u32, expected: &Desk, desk: &Desk) -> bool {
+        let floats = of_floats(asked).map(u32::from);
+        desk == expected && floats.is_none_or(|verdict| expected.words.slice(3) == [verdict])
+    }
+
+    fn shown(&self, asked: &WholeAsked, judge: (u32, &Desk), ours: (u32, &Desk)) -> String {
+        let mut text = format!("({:?}, {:?}, {:?})", asked.view, asked.p0, asked.p1);
+        text += &format!("\n      judge  {} {:?}", judge.0, judge.1.words.slice(3));
+        text += &format!("\n      ours   {} {:?}", ours.0, ours.1.words.slice(3));
+        if let Some(verdict) = of_floats(asked) {
+            text += &format!("\n      floats 0 {}", u32::from(verdict));
+        }
+        text
+    }
+
     /// Against the plain copy, and against our own engine of floats.
-    fn timings<'a>(&'a self) -> Vec<Timing<'a>> {
-        let (Some(ours), Some(our_floats)) = (&self.ours, &self.our_floats) else {
+    fn timings(of: &Both<Engine>) -> Vec<Timing<'_>> {
+        let (Some(ours), Some(our_floats)) = (&of.ours, &of.of.our_floats) else {
             return vec![];
-        };
-        let pass = |side: &'a dyn Side, lent: &'static [Ins]| {
-            let mut out = 0.0;
-            Box::new(move || side.pass(black_box(lent), Lent::to_write(slice::from_mut(&mut out))))
         };
         let timing = |(against_plain, against_floats, count): (&'static str, &'static str, usize)| {
             let [whole, floats] = timed(count);
-            let ours = ours.as_ref();
+            let ours = (ours.as_ref(), whole);
             [
-                Timing { set: against_plain, ours: pass(ours, whole), rust: pass(self.plain.as_ref(), whole) },
-                Timing { set: against_floats, ours: pass(ours, whole), rust: pass(our_floats.as_ref(), floats) },
+                Timing::of(against_plain, [ours, (of.of.plain.as_ref(), whole)], 1),
+                Timing::of(against_floats, [ours, (our_floats.as_ref(), floats)], 1),
             ]
         };
         let sets = [
@@ -468,97 +394,52 @@ impl Timed for Engine {
         ];
         sets.into_iter().flat_map(timing).collect()
     }
-}
-
-/// Whether it is among the recorded answers, should it be listed there: of two
-/// points, and a view that is of the right length or at least two away from it.
-/// A replay tries one number less and one more.
-fn is_recorded(asked: &WholeAsked) -> bool {
-    let view = asked.view.len();
-    let right = usize::try_from(asked.view.first().copied().unwrap_or(0)).ok().map(whole_length);
-    let apart = right.is_some_and(|right| right == view || right.abs_diff(view) > 1);
-    let ends = asked.p0.len() == 3 && asked.p1.len() == 3;
-    ends && (26..=whole_length(PLANES_TRIED)).contains(&(view + 1)) && (apart || right.is_none())
-}
-
-impl Op for Engine {
-    fn code(&self) -> u64 {
-        227
-    }
 
     /// Those about the cube, some of each kind of the other fixed ones, and
     /// drawn ones of each outcome.
-    fn vectors(&self) -> Vec<Words> {
-        let kind = |asked: &WholeAsked| outcome(self.judged(asked).0, &self.judged(asked).1);
-        let about: Vec<&WholeAsked> = self.fixed.iter().take(ABOUT_CUBE.len() * 2).step_by(2).collect();
-        let mut all: Vec<WholeAsked> = about.into_iter().cloned().collect();
-        let others = self.fixed.iter().skip(ABOUT_CUBE.len() * 2).filter(|asked| is_recorded(asked));
-        let others: Vec<&WholeAsked> = others.collect();
-        // Evenly from all that is fixed, and of the refusals a few each.
-        all.extend(others.iter().step_by(others.len() / 24).map(|&asked| asked.clone()));
-        for refusal in [WRONG_INPUT, NO_COUNT, OFF_GRID] {
-            let refused = others.iter().filter(|asked| kind(asked) == refusal as usize);
-            all.extend(refused.step_by(17).take(4).map(|&asked| asked.clone()));
-        }
-        let drawn = (0..).map(|case| inputs::whole_asked(&mut Rng::at(1, case))).filter(is_recorded);
-        all.extend(drawn.take(DRAWN));
-        let recorded = |asked: WholeAsked| {
-            let (status, desk) = self.judged(&asked);
-            let numbers = [&asked.view[..], &asked.p0, &asked.p1].concat();
-            let given: Vec<u64> = numbers.into_iter().map(|x| u64::from(x as u32)).collect();
-            words::record(
-                &given,
-                status,
-                if status == 0 { slice::from_ref(&WORDS[desk.verdict() as usize]) } else { &[] },
-            )
-        };
-        let mut once: Vec<Words> = vec![];
-        for words in all.into_iter().map(recorded) {
-            if !once.contains(&words) {
-                once.push(words);
-            }
-        }
-        once
+    fn recorded(of: &Both<Engine>) -> Vec<WholeAsked> {
+        let fits = |asked: &WholeAsked| asked.p0.len() == 3 && asked.p1.len() == 3 && view_is_recorded(&asked.view);
+        let (about, others) = of.fixed.split_at(2 * ABOUT_CUBE.len());
+        let others: Vec<&WholeAsked> = others.iter().filter(|asked| fits(asked)).collect();
+        let drawn = (0..).map(|case| inputs::whole_asked(&mut Rng::at(1, case))).filter(fits);
+        about.iter().step_by(2).cloned().chain(some_of(of, &others)).chain(drawn.take(DRAWN)).collect()
     }
 
-    fn sides(&self) -> Option<[Option<&dyn Side>; 2]> {
-        Some([Some(self.judge.as_ref()), self.ours.as_deref()])
+    fn words(&self, _: &WholeAsked, desk: &Desk) -> (Vec<Vec<u64>>, Vec<u64>) {
+        whole_words(desk, 3)
     }
 
+    fn sides(of: &Both<Engine>) -> [Option<&dyn Side>; 2] {
+        [Some(of.judge.as_ref()), of.ours.as_deref()]
+    }
+
+    /// No end and no view; no count; another length; a number past its limit.
     #[cfg(test)]
-    fn refusals(&self) -> Vec<u32> {
+    fn mended() -> Vec<WholeAsked> {
         let six = || WholeAsked::of(&WHOLE_CUBE, [0; 3], [1; 3]).extreme(0, 5);
-        // No end and no view; no count; another length; a number past its limit.
-        let mended = [
+        vec![
             six().counted(5).cut(24, 2, 2),
             six().counted(5).cut(29, 3, 3),
             six().cut(29, 3, 3),
             six(),
             WholeAsked::of(&WHOLE_CUBE, [0; 3], [1; 3]),
-        ];
-        let mut answers: Vec<u32> = mended.iter().map(|asked| self.judged(asked).0).collect();
-        assert_eq!(answers.pop(), Some(0), "the last has no fault");
-        for case in 0..20_000 {
-            let status = self.judged(&self.asked(case, &mut Rng::at(1, case))).0;
-            assert!(status == 0 || answers.contains(&status), "{}: {status} is not met", self.name());
-        }
-        answers
+        ]
     }
 }
 
-/// How many drawn ones are recorded, and the words of no and yes.
+/// How many drawn ones are recorded.
 const DRAWN: usize = 16;
-const WORDS: [u64; 2] = [0, 1];
 
 #[cfg(test)]
 mod tests {
     use super::*;
+    use crate::trial::{Outcome, Trial};
 
     /// Cases 3 to 7 of paper 01's marked verdicts.
     #[test]
     fn the_marked_verdicts() {
-        let engine = Engine::of(None);
-        let verdict = |i: usize| engine.judged(&engine.fixed[2 * i]).1.verdict();
+        let engine = by(None);
+        let verdict = |i: usize| engine.judged(&engine.fixed[2 * i]).1.words.slice(3)[0];
         assert_eq!([0, 1, 2, 3, 4].map(verdict), [1, 1, 0, 0, 0]);
         // A corner, touched and passed by: docs/VERDICTS.md.
         assert_eq!([10, 11].map(verdict), [1, 0]);
@@ -568,7 +449,7 @@ mod tests {
     /// the plain copy, which gives the refusals too.
     #[test]
     fn floats_and_the_plain_copy_agree() {
-        let engine = Engine::of(Some(rust_side(plain)));
+        let engine = by(Some(rust_side(plain)));
         let tally = engine.compare(0..engine.cases(0) + 300_000, 1);
         assert_eq!(tally.differences, 0, "{:?}", tally.first);
         for kind in [Outcome::YES, Outcome::NO, 1, 7, 12] {

@@ -4,22 +4,21 @@
 #[cfg(test)]
 mod slips;
 
+use super::whole::{cube_of, some_of, view_is_recorded, whole_words};
+use crate::desk::{Both, Desk, Laid, seen};
 use crate::exact;
 use crate::exported::of_archive;
 use crate::inputs::{
     self, COORDINATE, DISTANCE, EXTREMES, NORMAL, Oblique, PLANES_TRIED, Rng, TOO_MANY, WHOLE_COUNTS, WHOLE_CUBE,
-    WITNESS, Whole, WholeBox, WholePlane, farm_volume, mixed, on_grid, whole_length,
+    WITNESS, Whole, WholeBox, WholePlane, farm_volume, on_grid, whole_length,
 };
 use crate::judge::{FEWEST_PLANES, MOST_PLANES, NO_COUNT, OFF_GRID, WRONG_INPUT, WRONG_OUTPUT};
 use crate::lent::{Ins, Lent, Pointer, Side};
-use crate::op::{Op, Timed, Timing};
-use crate::trial::{Outcome, Trial};
-use crate::words::{self, Words};
-use std::hint::black_box;
+use crate::op::{Op, Timing};
 use std::slice;
 
 pub fn all() -> Vec<Box<dyn Op>> {
-    vec![Box::new(Engine::of_archive())]
+    vec![Box::new(of_archive())]
 }
 
 /// The planes of a view that is long enough for the fewest.
@@ -89,118 +88,67 @@ type OurFiled = unsafe extern "C" fn(*const f64, usize, *const f64, usize, *mut 
 // What a side is lent, in this order: the view and the corners, as i32, and the
 // witness, as i64; then the verdict, as u32.
 
-fn of_whole(numbers: &[i32]) -> Lent {
-    Lent { at: numbers.as_ptr().cast_mut().cast(), len: numbers.len() }
-}
-
 /// What is lent for an input, with a witness of its length.
 pub fn whole_box_lent(asked: &WholeBox, witness: &mut [i64]) -> Ins {
     let witness = Lent { at: witness.as_mut_ptr().cast(), len: witness.len() };
-    [of_whole(&asked.view), of_whole(&asked.corners), witness, Lent::NONE]
-}
-
-unsafe fn wholes<'a>(lent: Lent) -> &'a [i32] {
-    unsafe { slice::from_raw_parts(lent.at.cast(), lent.len) }
+    [Lent::wholes(&asked.view), Lent::wholes(&asked.corners), witness, Lent::NONE]
 }
 
 unsafe fn point<'a>(lent: Lent) -> &'a mut [i64] {
     unsafe { slice::from_raw_parts_mut(lent.at.cast(), lent.len) }
 }
 
-unsafe fn verdict<'a>(lent: Lent) -> &'a mut u32 {
-    unsafe { &mut *lent.at.cast() }
-}
-
 fn rust_side(f: Rust) -> Box<dyn Side> {
     Box::new(Pointer(f, |f: Rust, &[view, corners, witness, _]: &Ins, out: Lent| unsafe {
-        f(wholes(view), wholes(corners), point(witness), verdict(out))
+        f(view.whole_slice(), corners.whole_slice(), point(witness), out.word())
     }))
 }
 
-/// Both sides, what ours is timed against, and what is always tried.
+/// What ours is timed against.
 struct Engine {
-    ours: Option<Box<dyn Side>>,
-    judge: Box<dyn Side>,
     plain: Box<dyn Side>,
     our_filed: Option<Box<dyn Side>>,
-    fixed: Vec<WholeBox>,
 }
 
 // What is lent is as long as it says, and is not lent twice.
-impl Engine {
-    fn of_archive() -> Engine {
-        let ours: Option<Ours> = of_archive!(
-            gf_whole_intersects_bbox:
-                fn(_: *const i32, _: usize, _: *const i32, _: usize, _: *mut i64, _: usize, _: *mut u32) -> u32
-        );
-        Engine::of(ours.map(|f| -> Box<dyn Side> {
-            Box::new(Pointer(f, |f: Ours, &[view, corners, witness, _]: &Ins, out: Lent| unsafe {
-                let at = |lent: Lent| lent.at.cast_const().cast();
-                f(at(view), view.len, at(corners), corners.len, witness.at.cast(), witness.len, out.at.cast())
-            }))
+
+fn of_archive() -> Both<Engine> {
+    let ours: Option<Ours> = of_archive!(
+        gf_whole_intersects_bbox:
+            fn(_: *const i32, _: usize, _: *const i32, _: usize, _: *mut i64, _: usize, _: *mut u32) -> u32
+    );
+    by(ours.map(|f| -> Box<dyn Side> {
+        Box::new(Pointer(f, |f: Ours, &[view, corners, witness, _]: &Ins, out: Lent| unsafe {
+            let at = |lent: Lent| lent.at.cast_const().cast();
+            f(at(view), view.len, at(corners), corners.len, witness.at.cast(), witness.len, out.at.cast())
         }))
-    }
-
-    fn of(ours: Option<Box<dyn Side>>) -> Engine {
-        let filed: Option<OurFiled> = of_archive!(
-            gf_intersects_bbox: fn(_: *const f64, _: usize, _: *const f64, _: usize, _: *mut u32) -> u32
-        );
-        let our_filed = filed.map(|f| -> Box<dyn Side> {
-            Box::new(Pointer(f, |f: OurFiled, &[volume, b, ..]: &Ins, out: Lent| unsafe {
-                f(volume.at.cast_const(), volume.len, b.at.cast_const(), b.len, out.at.cast())
-            }))
-        });
-        Engine { ours, judge: rust_side(judge), plain: rust_side(plain), our_filed, fixed: fixed() }
-    }
-
-    fn asked(&self, case: u64, rng: &mut Rng) -> WholeBox {
-        match self.fixed.get(case as usize) {
-            Some(asked) => asked.clone(),
-            None => inputs::whole_box(rng),
-        }
-    }
-
-    /// Puts one case to both sides: for the judge and ours what was answered
-    /// and all that is left.
-    fn make(&self, case: u64, mut rng: Rng) -> (WholeBox, [(u32, Desk); 2]) {
-        let asked = self.asked(case, &mut rng);
-        let before = Desk::new(&asked);
-        let made = [Some(&self.judge), self.ours.as_ref()].map(|side| {
-            let mut desk = before.clone();
-            let status = desk.put_to(side.expect("exported").as_ref());
-            (status, desk)
-        });
-        (asked, made)
-    }
-
-    /// What the judge answers, and what it leaves.
-    fn judged(&self, asked: &WholeBox) -> (u32, Desk) {
-        let mut desk = Desk::new(asked);
-        let status = desk.put_to(self.judge.as_ref());
-        (status, desk)
-    }
+    }))
 }
 
-fn outcome(status: u32, desk: &Desk) -> usize {
-    match status {
-        0 if desk.verdict() == 1 => Outcome::YES,
-        0 => Outcome::NO,
-        _ => status as usize,
-    }
+fn by(ours: Option<Box<dyn Side>>) -> Both<Engine> {
+    let filed: Option<OurFiled> = of_archive!(
+        gf_intersects_bbox: fn(_: *const f64, _: usize, _: *const f64, _: usize, _: *mut u32) -> u32
+    );
+    let our_filed = filed.map(|f| -> Box<dyn Side> {
+        Box::new(Pointer(f, |f: OurFiled, &[volume, b, ..]: &Ins, out: Lent| unsafe {
+            f(volume.at.cast_const(), volume.len, b.at.cast_const(), b.len, out.at.cast())
+        }))
+    });
+    Both { of: Engine { plain: rust_side(plain), our_filed }, ours, judge: rust_side(judge), fixed: fixed() }
+}
+
+/// What was left in the room for a witness.
+fn witness(desk: &Desk) -> impl Iterator<Item = i64> {
+    desk.numbers.slice(0).iter().map(|&word| word as i64)
 }
 
 /// Whether what was left beside a yes is a point of box and view.
-fn is_witness(asked: &WholeBox, witness: &[i64]) -> bool {
+fn is_witness(asked: &WholeBox, desk: &Desk) -> bool {
     let Ok((planes, corners)) = accepted(&asked.view, &asked.corners, asked.room) else {
         return false;
     };
-    witness.try_into().is_ok_and(|witness| exact::is_shared(&planes, corners, witness))
-}
-
-/// The cube with further planes behind it, a little further out.
-fn cube_of(count: usize) -> Vec<WholePlane> {
-    let further = |i: usize| WholePlane { distance: WHOLE_CUBE[i % 6].distance - 1, ..WHOLE_CUBE[i % 6] };
-    (0..count).map(|i| if i < 6 { WHOLE_CUBE[i] } else { further(i) }).collect()
+    let witness: Vec<i64> = witness(desk).collect();
+    witness[..].try_into().is_ok_and(|witness| exact::is_shared(&planes, corners, witness))
 }
 
 fn plane([x, y, z, distance]: [i64; 4]) -> WholePlane {
@@ -404,106 +352,6 @@ fn faulty() -> Vec<WholeBox> {
     all
 }
 
-/// What a call is lent, and beside it what nobody may write.
-#[derive(Clone, PartialEq)]
-struct Desk {
-    words: Vec<i32>,
-    /// The lengths of the view and the corners.
-    len: [usize; 2],
-    numbers: Vec<i64>,
-    room: usize,
-}
-
-/// How much is beside each; an odd number, so that an i32 lies at any
-/// alignment that it may.
-const GUARD: usize = 5;
-
-impl Desk {
-    fn new(asked: &WholeBox) -> Desk {
-        let slices = [&asked.view, &asked.corners];
-        let len = slices.map(|numbers| numbers.len());
-        let words = (0..(len.iter().sum::<usize>() + 1 + 4 * GUARD) as u64).map(|i| mixed(!i) as i32).collect();
-        let numbers = (0..(asked.room + 2 * GUARD) as u64).map(|i| mixed(i) as i64).collect();
-        let mut desk = Desk { words, len, numbers, room: asked.room };
-        for (i, numbers) in slices.into_iter().enumerate() {
-            let at = desk.at(i);
-            desk.words[at..][..numbers.len()].copy_from_slice(numbers);
-        }
-        desk
-    }
-
-    /// Where the view, the corners and the verdict are lent.
-    fn at(&self, i: usize) -> usize {
-        self.len[..i].iter().sum::<usize>() + (i + 1) * GUARD
-    }
-
-    fn put_to(&mut self, side: &dyn Side) -> u32 {
-        let at = [0, 1, 2].map(|i| self.at(i));
-        let words = self.words.as_mut_ptr();
-        let lent = |i: usize, len: usize| Lent { at: words.wrapping_add(at[i]).cast(), len };
-        let witness = Lent { at: self.numbers[GUARD..].as_mut_ptr().cast(), len: self.room };
-        side.call(&[lent(0, self.len[0]), lent(1, self.len[1]), witness, Lent::NONE], lent(2, 1))
-    }
-
-    fn verdict(&self) -> i32 {
-        self.words[self.at(2)]
-    }
-
-    fn witness(&self) -> &[i64] {
-        &self.numbers[GUARD..][..self.room]
-    }
-
-    /// With the witness of another desk.
-    fn with_witness(mut self, of: &Desk) -> Desk {
-        self.numbers[GUARD..][..self.room].copy_from_slice(of.witness());
-        self
-    }
-}
-
-/// Whether all that is left is right: beside a yes any point that is one, and
-/// all else as the judge left it.
-fn is_right(asked: &WholeBox, expected: Desk, desk: &Desk, answered: bool) -> bool {
-    let yes = answered && expected.verdict() == 1;
-    (!yes || is_witness(asked, desk.witness())) && *desk == if yes { expected.with_witness(desk) } else { expected }
-}
-
-impl Trial for Engine {
-    fn name(&self) -> &'static str {
-        "whole_intersects_bbox"
-    }
-
-    fn note(&self) -> Option<&str> {
-        self.ours.is_none().then_some("not exported yet")
-    }
-
-    fn cases(&self, count: u64) -> u64 {
-        if self.ours.is_none() { 0 } else { count.max(self.fixed.len() as u64) }
-    }
-
-    fn agree(&self, case: u64, rng: Rng) -> Option<usize> {
-        let (asked, [(judge, expected), (ours, desk)]) = self.make(case, rng);
-        let kind = outcome(judge, &expected);
-        (judge == ours && is_right(&asked, expected, &desk, judge == 0)).then_some(kind)
-    }
-
-    fn describe(&self, case: u64, rng: Rng) -> String {
-        let (asked, [(judge, expected), (ours, desk)]) = self.make(case, rng);
-        let mut text = format!("{}({:?}, {:?}, room {})", self.name(), asked.view, asked.corners, asked.room);
-        text += &format!("\n      judge  {judge} {}", expected.verdict());
-        text += &format!("\n      ours   {ours} {} {:?}", desk.verdict(), desk.witness());
-        if ours == 0 && desk.verdict() == 1 && !is_witness(&asked, desk.witness()) {
-            text += "\n      which is no point of box and view";
-        }
-        let (mut left, mut meant) = (desk.clone(), expected.with_witness(&desk));
-        let at = left.at(2);
-        (left.words[at], meant.words[at]) = (0, 0);
-        if left != meant {
-            text += "\n      an input, or a number beside one, was written";
-        }
-        text
-    }
-}
-
 /// What a pass puts to the engines: in whole numbers, and the same as records.
 fn timed(draw: impl Fn(u64, &mut Rng) -> (Vec<WholePlane>, inputs::FarmBox)) -> [&'static [Ins]; 2] {
     let asked: Vec<(Vec<WholePlane>, inputs::FarmBox)> =
@@ -522,133 +370,123 @@ fn timed(draw: impl Fn(u64, &mut Rng) -> (Vec<WholePlane>, inputs::FarmBox)) -> 
     [wholes.leak(), records.leak()]
 }
 
-impl Timed for Engine {
+/// How many drawn ones are recorded.
+const DRAWN: usize = 20;
+
+impl Laid for Engine {
+    type Given = WholeBox;
+    type Side = dyn Side;
+
+    fn name(&self) -> &'static str {
+        "whole_intersects_bbox"
+    }
+
+    fn drawn(rng: &mut Rng) -> WholeBox {
+        inputs::whole_box(rng)
+    }
+
+    fn lay(asked: &WholeBox) -> Desk {
+        Desk::new().wholes(&asked.view).wholes(&asked.corners).slots(1).room(asked.room)
+    }
+
+    fn put(desk: &mut Desk, side: &dyn Side) -> u32 {
+        let [view, corners, out] = [0, 1, 2].map(|i| desk.words.lent(i));
+        side.call(&[view, corners, desk.numbers.lent(0), Lent::NONE], out)
+    }
+
+    fn outcome(&self, status: u32, desk: &Desk) -> usize {
+        seen(status, desk.words.slice(2) == [1])
+    }
+
+    /// Beside a yes any point that is one, and all else as the judge left it.
+    fn agrees(&self, asked: &WholeBox, status: u32, expected: &Desk, desk: &Desk) -> bool {
+        match status == 0 && expected.words.slice(2) == [1] {
+            true => is_witness(asked, desk) && desk.is(expected, 0, |_, _| true),
+            false => desk == expected,
+        }
+    }
+
+    fn shown(&self, asked: &WholeBox, judge: (u32, &Desk), ours: (u32, &Desk)) -> String {
+        let (verdict, left) = (ours.1.words.slice(2), witness(ours.1).collect::<Vec<i64>>());
+        let mut text = format!("({:?}, {:?}, room {})", asked.view, asked.corners, asked.room);
+        text += &format!("\n      judge  {} {:?}", judge.0, judge.1.words.slice(2));
+        text += &format!("\n      ours   {} {verdict:?} {left:?}", ours.0);
+        if ours.0 == 0 && verdict == [1] && !is_witness(asked, ours.1) {
+            text += "\n      which is no point of box and view";
+        }
+        text
+    }
+
     /// Against our own filed verdict on the same blocks, and against the plain
     /// copy.
-    fn timings<'a>(&'a self) -> Vec<Timing<'a>> {
-        let (Some(ours), Some(our_filed)) = (&self.ours, &self.our_filed) else {
+    fn timings(of: &Both<Engine>) -> Vec<Timing<'_>> {
+        let (Some(ours), Some(our_filed)) = (&of.ours, &of.of.our_filed) else {
             return vec![];
         };
-        let pass = |side: &'a dyn Side, lent: &'static [Ins]| {
-            let mut out = 0.0;
-            Box::new(move || side.pass(black_box(lent), Lent::to_write(slice::from_mut(&mut out))))
+        let filed_beside = |set: &'static str, [whole, filed]: [&'static [Ins]; 2]| {
+            Timing::of(set, [(ours.as_ref(), whole), (our_filed.as_ref(), filed)], 1)
         };
         let timing = |(against_filed, against_plain, count): (&'static str, &'static str, usize)| {
             let [whole, filed] = timed(|_, rng| inputs::screened_block(rng, count));
-            let ours = ours.as_ref();
-            [
-                Timing { set: against_filed, ours: pass(ours, whole), rust: pass(our_filed.as_ref(), filed) },
-                Timing { set: against_plain, ours: pass(ours, whole), rust: pass(self.plain.as_ref(), whole) },
-            ]
+            let plain = [ours, &of.of.plain].map(|side| (side.as_ref(), whole));
+            [filed_beside(against_filed, [whole, filed]), Timing::of(against_plain, plain, 1)]
         };
         let sets = [
             ("orchard, our filed", "orchard, plain i64", FEWEST_PLANES),
             ("14, our filed", "14, plain i64", MOST_PLANES),
         ];
-        let worst = timed(|_, _| inputs::dearest());
-        let worst = Timing {
-            set: "the worst, our filed",
-            ours: pass(ours.as_ref(), worst[0]),
-            rust: pass(our_filed.as_ref(), worst[1]),
-        };
+        let worst = filed_beside("the worst, our filed", timed(|_, _| inputs::dearest()));
         sets.into_iter().flat_map(timing).chain([worst]).collect()
-    }
-}
-
-/// Whether it is among the recorded answers, should it be listed there: of a
-/// box and a witness of the right lengths, and a view that is of the right
-/// length or at least two away from it. A replay tries one number less and one
-/// more.
-fn is_recorded(asked: &WholeBox) -> bool {
-    let view = asked.view.len();
-    let right = usize::try_from(asked.view.first().copied().unwrap_or(0)).ok().map(whole_length);
-    let apart = right.is_some_and(|right| right == view || right.abs_diff(view) > 1);
-    let lengths = asked.corners.len() == 6 && asked.room == WITNESS;
-    lengths && (26..=whole_length(PLANES_TRIED)).contains(&(view + 1)) && (apart || right.is_none())
-}
-
-/// How many drawn ones are recorded, and the words of no and yes.
-const DRAWN: usize = 20;
-const WORDS: [u64; 2] = [0, 1];
-
-impl Op for Engine {
-    fn code(&self) -> u64 {
-        232
     }
 
     /// Those that part from the filed verdict and those about the cube, some of
     /// each kind of the other fixed ones, and drawn ones.
-    fn vectors(&self) -> Vec<Words> {
-        let kind = |asked: &WholeBox| outcome(self.judged(asked).0, &self.judged(asked).1);
-        let first = parting().len() + ABOUT_CUBE.len();
-        let mut all: Vec<WholeBox> = self.fixed[..first].to_vec();
-        let others: Vec<&WholeBox> = self.fixed[first..].iter().filter(|asked| is_recorded(asked)).collect();
-        // Evenly from all that is fixed, and of the refusals a few each.
-        all.extend(others.iter().step_by(others.len() / 24).map(|&asked| asked.clone()));
-        for refusal in [WRONG_INPUT, NO_COUNT, OFF_GRID] {
-            let refused = others.iter().filter(|asked| kind(asked) == refusal as usize);
-            all.extend(refused.step_by(17).take(4).map(|&asked| asked.clone()));
-        }
-        let drawn = (0..).map(|case| inputs::whole_box(&mut Rng::at(1, case))).filter(is_recorded);
-        all.extend(drawn.take(DRAWN));
-        let recorded = |asked: WholeBox| {
-            let (status, desk) = self.judged(&asked);
-            let numbers = [&asked.view[..], &asked.corners].concat();
-            let given: Vec<u64> = numbers.into_iter().map(|x| u64::from(x as u32)).collect();
-            words::record(
-                &given,
-                status,
-                if status == 0 { slice::from_ref(&WORDS[desk.verdict() as usize]) } else { &[] },
-            )
-        };
-        let mut once: Vec<Words> = vec![];
-        for words in all.into_iter().map(recorded) {
-            if !once.contains(&words) {
-                once.push(words);
-            }
-        }
-        once
+    fn recorded(of: &Both<Engine>) -> Vec<WholeBox> {
+        let fits =
+            |asked: &WholeBox| asked.corners.len() == 6 && asked.room == WITNESS && view_is_recorded(&asked.view);
+        let (first, others) = of.fixed.split_at(parting().len() + ABOUT_CUBE.len());
+        let others: Vec<&WholeBox> = others.iter().filter(|asked| fits(asked)).collect();
+        let drawn = (0..).map(|case| inputs::whole_box(&mut Rng::at(1, case))).filter(fits);
+        first.iter().cloned().chain(some_of(of, &others)).chain(drawn.take(DRAWN)).collect()
+    }
+
+    fn words(&self, _: &WholeBox, desk: &Desk) -> (Vec<Vec<u64>>, Vec<u64>) {
+        whole_words(desk, 2)
     }
 
     /// The search for a vertex beside ours; the judge is another.
-    fn sides(&self) -> Option<[Option<&dyn Side>; 2]> {
-        Some([Some(self.plain.as_ref()), self.ours.as_deref()])
+    fn sides(of: &Both<Engine>) -> [Option<&dyn Side>; 2] {
+        [Some(of.of.plain.as_ref()), of.ours.as_deref()]
     }
 
+    /// No box and no view; no count; another length; no room; a number past its
+    /// limit.
     #[cfg(test)]
-    fn refusals(&self) -> Vec<u32> {
+    fn mended() -> Vec<WholeBox> {
         let right = || WholeBox::of(&WHOLE_CUBE, [[0; 3], [1; 3]]);
         let six = || right().extreme(0, 5);
-        // No box and no view; no count; another length; no room; a number past
-        // its limit.
-        let mended = [
+        vec![
             six().counted(5).cut(24, 5, 3),
             six().counted(5).cut(29, 6, 3),
             six().cut(29, 6, 3),
             six().cut(25, 6, 3),
             six(),
             right(),
-        ];
-        let mut answers: Vec<u32> = mended.iter().map(|asked| self.judged(asked).0).collect();
-        assert_eq!(answers.pop(), Some(0), "the last has no fault");
-        for case in 0..20_000 {
-            let status = self.judged(&self.asked(case, &mut Rng::at(1, case))).0;
-            assert!(status == 0 || answers.contains(&status), "{}: {status} is not met", self.name());
-        }
-        answers
+        ]
     }
 }
 
 #[cfg(test)]
 mod tests {
     use super::*;
+    use crate::trial::{Outcome, Trial};
 
     /// The exact verdicts on what the filed verdict parts from, and on the
     /// marked boxes.
     #[test]
     fn worked_verdicts() {
-        let engine = Engine::of(None);
-        let verdict = |i: usize| engine.judged(&engine.fixed[i]).1.verdict();
+        let engine = by(None);
+        let verdict = |i: usize| engine.judged(&engine.fixed[i]).1.words.slice(2)[0];
         assert_eq!([0, 1, 2, 3].map(verdict), [0, 1, 0, 0]);
         assert_eq!([4, 5, 6, 7].map(verdict), [1, 0, 1, 0]);
     }
@@ -657,7 +495,7 @@ mod tests {
     /// other, of all that is tried; and it gives the refusals too.
     #[test]
     fn the_plain_search_agrees() {
-        let engine = Engine::of(Some(rust_side(plain)));
+        let engine = by(Some(rust_side(plain)));
         let tally = engine.compare(0..engine.cases(0) + 300_000, 1);
         assert_eq!(tally.differences, 0, "{:?}", tally.first);
         for kind in [Outcome::YES, Outcome::NO, 1, 2, 7, 12] {

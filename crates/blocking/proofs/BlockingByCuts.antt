@@ -3,10 +3,10 @@ use mathlib.Core.Path.{_≡_, sym, _∙_}
 use Prim.Native.Nat.{ℕ, _≤_}
 use Rattle.number.specs.Slots.{unused}
 use Rattle.number.specs.Places.{placesBelow, firstOf}
+use Rattle.number.specs.Tabulate.{tabulate}
+use Rattle.number.proofs.Tabulate.{as-many}
 use Rattle.matrix.specs.declared.vec.Vec3d.{Vec3d}
 use Rattle.verdict.specs.declared.plane.Plane.{Plane}
-use Rattle.verdict.specs.View.{tabulate}
-use Rattle.verdict.proofs.ViewLists.{as-many}
 use Rattle.blocking.specs.Blocking.{without, seenWithout, blockingPlane}
 use Rattle.blocking.specs.Steps.{cutAtStart, cutAtEnd, furthestWithout, cutBelow, cutsBelow, leaveWithout}
 use Rattle.blocking.proofs.Reached.{reaches}

@@ -5,8 +5,7 @@ pub mod Furthest
 pub mod Without
 pub mod PlaneRead
 pub mod BlockingByCuts
-pub mod PlanesBehind
 pub mod Calls
 pub mod Meaning
-pub mod PlanesMeaning
+pub mod OnlyBit
 pub mod Worked

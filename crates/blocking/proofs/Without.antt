@@ -1,19 +1,14 @@
 -- A test of every element of a list without one, by the places of the list. Assumes nothing.
 use mathlib.Core.Path.{_≡_, refl, sym, ap, _∙_}
-use mathlib.Core.Bool.{Bool, true, false, _&&_, _||_, and-true, and-assoc}
+use mathlib.Core.Bool.{Bool, true, false, _&&_, _||_}
 use Prim.Native.Nat.{ℕ, zero, suc}
 use native.Mathlib.Omega.{arith}
 use borrow.Author.Tests.{eqb-true, eqb-false, eq-eqb, ne-eqb}
 use lib.Dec.{eqb}
+use Rattle.number.specs.Tabulate.{tabulate}
 use Rattle.number.specs.Every.{every, everyBelow}
-use Rattle.verdict.specs.View.{tabulate}
+use Rattle.verdict.proofs.PlanesBehind.{first-below}
 use Rattle.blocking.specs.Blocking.{without}
-
--- the first of the numbers below a limit, and those behind it
-pub first-below : (n : ℕ) (t : ℕ → Bool) → everyBelow (suc n) t ≡ (t 0 && everyBelow n (λ k. t (suc k)))
-unfolding everyBelow
-first-below zero t = sym (and-true (t 0))
-first-below (suc n) t = ap (λ (b : Bool). b && t (suc n)) (first-below n t) ∙ and-assoc (t 0) (everyBelow n (λ k. t (suc k))) (t (suc n))
 
 pub next-same : (k j : ℕ) → eqb k j ≡ eqb (suc k) (suc j)
 next-same k j = go (eqb k j) refl

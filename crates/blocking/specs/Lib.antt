@@ -1,8 +1,6 @@
 -- What the contracts of this crate cite, and what a reader must believe.
 pub mod Blocking
-pub mod PlanesBehind
 pub mod Calls
 pub mod Meaning
-pub mod PlanesMeaning
 pub mod Worked
 pub mod Steps

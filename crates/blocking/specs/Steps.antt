@@ -53,9 +53,9 @@ furthestWithout c i = cond (eqb i (c .place)) (c .next) (c .furthest)
 
 -- ---- at both ends
 
-unfoldable pub withPlane : Cuts → Plane → Vec3d → Vec3d → ℕ → Cuts
+unfoldable pub cutsWith : Cuts → Plane → Vec3d → Vec3d → ℕ → Cuts
 unfolding withCut
-withPlane c p a b i = record { start = withCut (c .start) (cutAtStart a b p) i; end = withCut (c .end) (cutAtEnd a b p) i }
+cutsWith c p a b i = record { start = withCut (c .start) (cutAtStart a b p) i; end = withCut (c .end) (cutAtEnd a b p) i }
 
 -- the first n of the planes f
 abbrev pub cutsBelow : (ℕ → Plane) → Vec3d → Vec3d → ℕ → Cuts

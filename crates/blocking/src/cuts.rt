@@ -5,12 +5,12 @@ ghost use Rattle.number.specs.Places.{placesBelow, firstOf};
 ghost use Rattle.verdict.specs.View.{planeAt, planesOf};
 ghost use Rattle.verdict.specs.Steps.Passes.{HasPlanes};
 ghost use Rattle.blocking.specs.Blocking.{blockingPlane};
-ghost use Rattle.blocking.specs.Steps.{cutFrom, noCut, withCut, furthestWithout, withPlane, cutsBelow, leaveWithout};
+ghost use Rattle.blocking.specs.Steps.{cutFrom, noCut, withCut, furthestWithout, cutsWith, cutsBelow, leaveWithout};
 use matrix::vec::Vec3d;
 use number::answer::Place;
 use number::order::upper;
 use number::slots::UNUSED;
-use verdict::frustum::crossing;
+use verdict::passes::crossing;
 use verdict::plane::Plane;
 use verdict::view::plane_start;
 
@@ -83,7 +83,7 @@ struct Cuts {
 
 impl Cuts {
     fn with(self, plane: Plane, a: Vec3d, b: Vec3d, i: u32) -> Cuts
-        ensures { λ r. ⌜ r ≡ withPlane self plane a b i ⌝ }
+        ensures { λ r. ⌜ r ≡ cutsWith self plane a b i ⌝ }
     {
         let in_a = plane.on_positive_side(a);
         let in_b = plane.on_positive_side(b);

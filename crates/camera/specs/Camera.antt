@@ -42,14 +42,14 @@ numbers c = entries (c .transform) ++ kindNumber (c .projection) ∷ lens c
 -- ---- the lens of a volume
 
 -- the unit of lengths in the camera, in the world's
-abbrev pub unit : Float
-unit = rounded 1 10
+abbrev pub cameraUnit : Float
+cameraUnit = rounded 1 10
 
 -- The factor from a length of the window to one of the aperture. In perspective both lie between the same lines of sight, the window 1 away from the eye and
 -- the aperture a focal length away, whose own unit is changed for the aperture's. Along parallels only the unit changes.
 abbrev pub toAperture : Projection → Float → Float
-toAperture Perspective focal = widenOf focal ⊗ unit ⊘ unit
-toAperture Orthographic focal = one ⊘ unit
+toAperture Perspective focal = widenOf focal ⊗ cameraUnit ⊘ cameraUnit
+toAperture Orthographic focal = one ⊘ cameraUnit
 
 -- By that factor: the apertures are the window's width and height, and the offsets say where its middle is. Each number is narrowed once.
 abbrev pub filmed : Mat4d → ProjectionParams → Float → Float → Camera

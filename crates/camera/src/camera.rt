@@ -1,12 +1,17 @@
 // Cameras, and how one follows from the matrices of a view and of a projection.
 ghost use mathlib.Core.Path.{_≡_};
 ghost use Rattle.number.specs.Slice.{allFinite, stored};
-ghost use Rattle.camera.specs.Camera.{numbers, toAperture, cameraOf, opened, cameraFrom};
+ghost use Rattle.matrix.specs.Inverse.{inverse};
+ghost use Rattle.matrix.specs.Matrix.{matrixOf};
+ghost use Rattle.projection.specs.Projection.{recoveredFrom};
+ghost use Rattle.camera.specs.Camera.{numbers, toAperture, cameraOf, opened};
 use matrix::inverse::Inverted;
+use matrix::inverse::SINGULAR_DETERMINANT;
 use matrix::matrix::Mat4d;
 use number::answer::Refusal;
 use number::format::narrow;
 use number::format::widen;
+use number::limits::CAMERA_LENGTH;
 use number::slice;
 use projection::projection::Projection;
 use projection::projection::ProjectionParams;
@@ -45,6 +50,21 @@ fn to_aperture(projection: Projection, focal_length: f32) -> f64
     }
 }
 
+// The inverse of the matrix in a slice. `Mat4d::inverse` is called and copies the matrix; its parts are put where they are used.
+fn inverse(view: &[f64]) -> Inverted
+    ensures { λ r. ⌜ r ≡ inverse (matrixOf (now (view .entry))) ⌝ }
+{
+    let matrix = Mat4d::load(view);
+    let adjugate = Mat4d {
+        r0: matrix.cofactors0(),
+        r1: matrix.cofactors1(),
+        r2: matrix.cofactors2(),
+        r3: matrix.cofactors3(),
+    };
+    let det = matrix.determinant_by(adjugate);
+    adjugate.over(det, SINGULAR_DETERMINANT)
+}
+
 impl Camera {
     // How long an aperture of 1 is in the world.
     pub const APERTURE_UNIT: f64 = 0.1;
@@ -72,7 +92,7 @@ impl Camera {
     }
 
     // Its numbers, in the order of its record.
-    fn numbers(self) -> [f64; 24]
+    fn numbers(self) -> [f64; CAMERA_LENGTH]
         ensures { λ r. ⌜ r ≡ numbers self ⌝ }
     {
         let m = self.transform;
@@ -114,7 +134,7 @@ impl Camera {
     }
 
     // The camera of what the inverse of a view and the recovery of a projection came to.
-    pub(crate) fn opened(inverted: Inverted, recovered: Recovered, focal_length: f32) -> Set
+    fn opened(inverted: Inverted, recovered: Recovered, focal_length: f32) -> Set
         ensures { λ r. ⌜ r ≡ opened inverted recovered «focal_length» ⌝ }
     {
         let Inverted::Matrix(transform) = inverted else {
@@ -130,16 +150,13 @@ impl Camera {
         Set::To(camera)
     }
 
-    // The camera of a view and a projection. A lens of twice the focal length with apertures twice as large has the same projection, so
-    // that the focal length has to be told besides.
-    pub fn set_from_view_and_projection(view: Mat4d, projection: Mat4d, focal_length: f32) -> Set
-        ensures { λ r. ⌜ r ≡ cameraFrom view projection «focal_length» ⌝ }
+    // The camera of a view and a projection, matrices that are read where they are lent. A lens of twice the focal length with apertures
+    // twice as large has the same projection, so that the focal length has to be told besides.
+    pub fn set_from_view_and_projection(view: &[f64], projection: &[f64], focal_length: f32) -> Set
+        ensures { λ r. ⌜ r ≡ opened (inverse (matrixOf (now (view .entry)))) (recoveredFrom (now (projection .entry))) «focal_length» ⌝ }
     {
-        Camera::opened(
-            view.inverse(),
-            ProjectionParams::from_matrix(projection),
-            focal_length,
-        )
+        let recovered = ProjectionParams::from_record(projection);
+        Camera::opened(inverse(view), recovered, focal_length)
     }
 
     // Its numbers, into a slice of 24.

@@ -17,7 +17,7 @@ use Rattle.number.proofs.Ways.{both, stops, passes}
 use Rattle.whole.specs.SegmentCall.{numberAt, planesOf, viewLength, countOf, permitted, planeWithin}
 use Rattle.exact.specs.declared.plane.Point.{Point}
 use Rattle.exact.specs.ExactPoint.{Satisfies}
-use Rattle.exact.specs.BBoxCall.{lowCorner, highCorner, witnessLength, boxWithin, checked, Decided, Answers, WholeBoxCall}
+use Rattle.exact.specs.BBoxCall.{lowCorner, highCorner, witnessLength, boxWithin, countChecked, Decided, Answers, WholeBoxCall}
 use Rattle.exact.specs.Steps.{faces, constraintAt, Shared, Satisfying}
 use Rattle.exact.proofs.Constraints.{each-of, held-of, seen-of}
 use Rattle.exact.proofs.Taken.{pointOf, satisfied}
@@ -39,12 +39,12 @@ module _ (view box : List ℤ) (room : ℕ) where
       (unless (grid n) (refused 7)
       (result n))))
 
-  checked-is : unless lengths (refused 1) (after (countOf (numberAt view 0))) ≡ checked view box room
-  unfolding checked
+  checked-is : unless lengths (refused 1) (after (countOf (numberAt view 0))) ≡ countChecked view box room
+  unfolding countChecked
   checked-is = refl
 
   abbrev Gives : Outcome ℕ → Type 0
-  Gives x = x ≡ checked view box room
+  Gives x = x ≡ countChecked view box room
 
   pub other-box : (length box ≡ rangeLength → ⊥) → Gives (refused 1)
   other-box h = stops lengths (refused 1) _ (ap (λ (t : Bool). t && leb (viewLength fewestPlanes) (length view)) (ne-eqb _ _ h)) ∙ checked-is
@@ -112,7 +112,7 @@ pub record Passed (view box : List ℤ) (room n : ℕ) : Type 0 where
   pub planes : every planeWithin (planesOf view n) ≡ true
   pub bounds : boxWithin box ≡ true
 
-pub passed : (view box : List ℤ) (room n : ℕ) → result n ≡ checked view box room → Passed view box room n
+pub passed : (view box : List ℤ) (room n : ℕ) → result n ≡ countChecked view box room → Passed view box room n
 passed view box room n e =
     let a = past (lengths view box room) 1 (after view box room (countOf (numberAt view 0))) n (e ∙ sym (checked-is view box room)) in
     let m = countOf (numberAt view 0) in
@@ -137,7 +137,7 @@ passed view box room n e =
 
 -- ---- what a search that found a point, or none, answers
 module _ (view box before : List ℤ) (answer : Outcome Bool) (left : List ℤ) where
-  pub answers : (o : Outcome ℕ) → o ≡ checked view box (length before) → Answers view box before answer left o → WholeBoxCall view box before answer left
+  pub answers : (o : Outcome ℕ) → o ≡ countChecked view box (length before) → Answers view box before answer left o → WholeBoxCall view box before answer left
   answers o e d = subst (Answers view box before answer left) e d
 
 module _ (view box before : List ℤ) (n : ℕ) where

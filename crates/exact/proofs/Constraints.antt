@@ -11,9 +11,10 @@ use lib.ListN.{length}
 use lib.IntN.{ℤ}
 use Rattle.number.specs.Limits.{rangeLength, mostPlanes}
 use Rattle.number.specs.Every.{every}
-use Rattle.number.proofs.Tests.{both-hold}
+use Rattle.number.specs.Tabulate.{tabulate}
+use Rattle.number.proofs.Tabulate.{passes-at}
 use Rattle.whole.specs.Plane.{WholePlane}
-use Rattle.whole.specs.SegmentCall.{planeAt, planesFrom, planesOf, viewLength, planeWithin}
+use Rattle.whole.specs.SegmentCall.{planeAt, planesOf, viewLength, planeWithin}
 use Rattle.exact.specs.ExactPoint.{ExactPoint, Satisfies, Every, InView, InBox}
 use Rattle.exact.specs.BBoxCall.{lowCorner, highCorner, boxWithin}
 use Rattle.exact.specs.Steps.{faces, faceAt, constraintAt, Constraints}
@@ -37,36 +38,17 @@ by-place view box n K f g i l = go (ltb i faces) refl
     go false e = let h = ltb-false i faces e in g (i - faces) (omega arith)
 
 -- ---- the planes of a list by their places
-module _ (s : List ℤ) where
-  at-next : (K : WholePlane → Type 0) (i j : ℕ) → K (planeAt s (i + 1 + j)) → K (planeAt s (i + suc j))
-  at-next K i j = let e : i + 1 + j ≡ i + suc j = omega arith in subst (λ (k : ℕ). K (planeAt s k)) e
+module _ (K : WholePlane → Type 0) where
+  listed : (f : ℕ → WholePlane) (n : ℕ) → Every K (tabulate f n) → (j : ℕ) → j < n → K (f j)
+  unfolding tabulate
+  listed f zero h j l = absurd (omega arith)
+  listed f (suc n) h zero l = h .0
+  listed f (suc n) h (suc j) l = listed (λ i. f (suc i)) n (h .1) j (omega arith)
 
-  at-first : (K : WholePlane → Type 0) (i : ℕ) → K (planeAt s i) → K (planeAt s (i + 0))
-  at-first K i = let e : i ≡ i + 0 = omega arith in subst (λ (k : ℕ). K (planeAt s k)) e
-
-  listed : (K : WholePlane → Type 0) (i n : ℕ) → Every K (planesFrom s i n) → (j : ℕ) → j < n → K (planeAt s (i + j))
-  unfolding planesFrom
-  listed K i zero h j l = absurd (omega arith)
-  listed K i (suc n) h zero l = at-first K i (h .0)
-  listed K i (suc n) h (suc j) l = at-next K i j (listed K (i + 1) n (h .1) j (omega arith))
-
-  list : (K : WholePlane → Type 0) (i n : ℕ) → ((j : ℕ) → j < n → K (planeAt s (i + j))) → Every K (planesFrom s i n)
-  unfolding planesFrom
-  list K i zero h = tt
-  list K i (suc n) h = (
-    let e : i + 0 ≡ i = omega arith in subst (λ (k : ℕ). K (planeAt s k)) e (h 0 (omega arith)),
-    list K (i + 1) n (λ j l. let e : i + suc j ≡ i + 1 + j = omega arith in subst (λ (k : ℕ). K (planeAt s k)) e (h (suc j) (omega arith))),
-  )
-
-  tests : (i n : ℕ) → every planeWithin (planesFrom s i n) ≡ true → (j : ℕ) → j < n → planeWithin (planeAt s (i + j)) ≡ true
-  unfolding planesFrom every
-  tests i zero h j l = absurd (omega arith)
-  tests i (suc n) h zero l = at-first (λ P. planeWithin P ≡ true) i (both-hold (planeWithin (planeAt s i)) (every planeWithin (planesFrom s (i + 1) n)) h .0)
-  tests i (suc n) h (suc j) l =
-      at-next (λ P. planeWithin P ≡ true) i j (tests (i + 1) n (both-hold (planeWithin (planeAt s i)) (every planeWithin (planesFrom s (i + 1) n)) h .1) j (omega arith))
-
-from-zero : (j : ℕ) → 0 + j ≡ j
-from-zero j = omega arith
+  list : (f : ℕ → WholePlane) (n : ℕ) → ((j : ℕ) → j < n → K (f j)) → Every K (tabulate f n)
+  unfolding tabulate
+  list f zero h = tt
+  list f (suc n) h = (h 0 (omega arith), list (λ i. f (suc i)) n (λ j l. h (suc j) (omega arith)))
 
 -- ---- a view and a box on the grid
 module _ (view box : List ℤ) (n : ℕ) where
@@ -76,8 +58,7 @@ module _ (view box : List ℤ) (n : ℕ) where
     few = omega arith;
     corners = l;
     planes = let e : n ≡ faces + n - faces = omega arith in subst (λ (k : ℕ). viewLength k ≤ length view) e m;
-    within = by-place view box n (λ P. planeWithin P ≡ true) (faces-within box b)
-        (λ j l. subst (λ (k : ℕ). planeWithin (planeAt view k) ≡ true) (from-zero j) (tests view 0 n p j l));
+    within = by-place view box n (λ P. planeWithin P ≡ true) (faces-within box b) (passes-at planeWithin (planeAt view) n p);
   }
 
   -- a point satisfies them all exactly where it is in the box and in the view
@@ -88,14 +69,14 @@ module _ (view box : List ℤ) (n : ℕ) where
     pub each-of : InBox (lowCorner box) (highCorner box) X → InView (planesOf view n) X → Each
     each-of b v = by-place view box n (λ P. Satisfies P X)
         (λ i l. subst (λ (P : WholePlane). Satisfies P X) (face-there view box i l) (faces-hold view box X b i l))
-        (λ j l. subst (λ (k : ℕ). Satisfies (planeAt view k) X) (from-zero j) (listed view (λ P. Satisfies P X) 0 n v j l))
+        (listed (λ P. Satisfies P X) (planeAt view) n v)
 
     pub held-of : Each → InBox (lowCorner box) (highCorner box) X
     held-of h = in-box view box X (λ i l. h i (omega arith))
 
     pub seen-of : Each → InView (planesOf view n) X
-    seen-of h = list view (λ P. Satisfies P X) 0 n (λ j l.
-        let e : faces + j - faces ≡ 0 + j = omega arith in
+    seen-of h = list (λ P. Satisfies P X) (planeAt view) n (λ j l.
+        let e : faces + j - faces ≡ j = omega arith in
         subst (λ (k : ℕ). Satisfies (planeAt view k) X) e
         (subst (λ (P : WholePlane). Satisfies P X) (plane-there view box (faces + j) (omega arith)) (h (faces + j) (omega arith))))
 

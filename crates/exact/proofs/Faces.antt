@@ -18,7 +18,7 @@ use Rattle.whole.specs.SegmentCall.{numberAt, within, planeWithin}
 use Rattle.whole.proofs.Integer.{of-self as self, of-pos, of-neg, of-eq, of-le, abs-neg, _⊞_, _⊟_, _⊠_}
 use Rattle.exact.specs.ExactPoint.{ExactPoint, Satisfies, InBox}
 use Rattle.exact.specs.BBoxCall.{lowCorner, highCorner, axisWithin, boxWithin}
-use Rattle.exact.specs.Steps.{unit, faces, faceAt, constraintAt}
+use Rattle.exact.specs.Steps.{axisDirection, faces, faceAt, constraintAt}
 
 -- what holds of each of six numbers
 pub six : (K : ℕ → Type 0) → K 0 → K 1 → K 2 → K 3 → K 4 → K 5 → (i : ℕ) → i < 6 → K i
@@ -31,7 +31,7 @@ six K a b c d e f (suc (suc (suc (suc (suc zero))))) l = f
 six K a b c d e f (suc (suc (suc (suc (suc (suc i)))))) l = absurd (omega arith)
 
 -- ---- along one axis
-unit-is : (j : ℕ) → j < 3 → (x : ℕ → ℤ) → dotℤ (unit j) x ≡ x j
+unit-is : (j : ℕ) → j < 3 → (x : ℕ → ℤ) → dotℤ (axisDirection j) x ≡ x j
 unit-is zero l x = of-eq (of-pos 1 ⊠ self (x 0) ⊞ of-pos 0 ⊠ self (x 1) ⊞ of-pos 0 ⊠ self (x 2)) (self (x 0)) (omega arith)
 unit-is (suc zero) l x = of-eq (of-pos 0 ⊠ self (x 0) ⊞ of-pos 1 ⊠ self (x 1) ⊞ of-pos 0 ⊠ self (x 2)) (self (x 1)) (omega arith)
 unit-is (suc (suc zero)) l x = of-eq (of-pos 0 ⊠ self (x 0) ⊞ of-pos 0 ⊠ self (x 1) ⊞ of-pos 1 ⊠ self (x 2)) (self (x 2)) (omega arith)
@@ -65,19 +65,19 @@ module _ (view box : List ℤ) (X : ExactPoint) where
   abbrev x : ℕ → ℤ
   x = X .numbers
 
-  Low : (P : WholePlane) (j : ℕ) → j < 3 → (l : ℤ) → P ≡ record { normal = unit j; distance = l } → Satisfies P X ↔ ((pos (X .k) *ℤ l) ≤ℤ x j)
+  Low : (P : WholePlane) (j : ℕ) → j < 3 → (l : ℤ) → P ≡ record { normal = axisDirection j; distance = l } → Satisfies P X ↔ ((pos (X .k) *ℤ l) ≤ℤ x j)
   Low P j b l e =
-      let Q : WholePlane = record { normal = unit j; distance = l } in
+      let Q : WholePlane = record { normal = axisDirection j; distance = l } in
       let r = along Q X (x j) (unit-is j b x) in
       let s = least-is (x j) l (X .k) in (
         λ h. s .0 (r .0 (subst (λ (P : WholePlane). Satisfies P X) e h)),
         λ h. subst (λ (P : WholePlane). Satisfies P X) (sym e) (r .1 (s .1 h)),
       )
 
-  High : (P : WholePlane) (j : ℕ) → j < 3 → (u : ℤ) → P ≡ record { normal = λ i. negℤ (unit j i); distance = negℤ u } → Satisfies P X ↔ (x j ≤ℤ (pos (X .k) *ℤ u))
+  High : (P : WholePlane) (j : ℕ) → j < 3 → (u : ℤ) → P ≡ record { normal = λ i. negℤ (axisDirection j i); distance = negℤ u } → Satisfies P X ↔ (x j ≤ℤ (pos (X .k) *ℤ u))
   High P j b u e =
-      let Q : WholePlane = record { normal = λ i. negℤ (unit j i); distance = negℤ u } in
-      let r = along Q X (negℤ (x j)) (dot-neg (unit j) x ∙ ap negℤ (unit-is j b x)) in
+      let Q : WholePlane = record { normal = λ i. negℤ (axisDirection j i); distance = negℤ u } in
+      let r = along Q X (negℤ (x j)) (dot-neg (axisDirection j) x ∙ ap negℤ (unit-is j b x)) in
       let s = greatest-is (x j) u (X .k) in (
         λ h. s .0 (r .0 (subst (λ (P : WholePlane). Satisfies P X) e h)),
         λ h. subst (λ (P : WholePlane). Satisfies P X) (sym e) (r .1 (s .1 h)),

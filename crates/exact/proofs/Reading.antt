@@ -16,17 +16,17 @@ use Rattle.whole.proofs.Integer.{abs-neg}
 use Rattle.whole.proofs.Limits.{plane-sizes}
 use Rattle.exact.specs.declared.vec.Vec3i.{Vec3i}
 use Rattle.exact.specs.declared.plane.Plane.{Plane}
-use Rattle.exact.specs.Steps.{vec, plane, unit, faces, faceAt, constraintAt, Constraints}
+use Rattle.exact.specs.Steps.{vec, plane, axisDirection, faces, faceAt, constraintAt, Constraints}
 use Rattle.exact.proofs.Machine.{R, again, turned-is}
 use Rattle.exact.proofs.Constraints.{face-there, plane-there}
 
 -- ---- a face
 module _ (box : List ℤ) (i : ℕ) where
   abbrev lower : WholePlane
-  lower = record { normal = unit i; distance = numberAt box i }
+  lower = record { normal = axisDirection i; distance = numberAt box i }
 
   abbrev upper : WholePlane
-  upper = record { normal = λ j. negℤ (unit (i - 3) j); distance = negℤ (numberAt box i) }
+  upper = record { normal = λ j. negℤ (axisDirection (i - 3) j); distance = negℤ (numberAt box i) }
 
   is-lower : i < 3 → faceAt box i ≡ lower
   is-lower l = ap (λ (b : Bool). cond b lower upper) (lt-ltb i 3 l)
@@ -46,12 +46,12 @@ module _ (box : List ℤ) (i : ℕ) where
     small : natAbs d ≤ distanceLimit
     small = subst (λ (z : ℤ). natAbs z ≤ distanceLimit) (sym f) (face-number s)
 
-    pub lower-read : i < 3 → n ≡ vec (unit i) → _≡_ {A = Plane} (record { normal = n; distance = R d }) (plane (faceAt box i))
+    pub lower-read : i < 3 → n ≡ vec (axisDirection i) → _≡_ {A = Plane} (record { normal = n; distance = R d }) (plane (faceAt box i))
     lower-read l e =
         (λ t. record { normal = e t; distance = again (lit≤ tt) (record { is = f; size = face-number s }) .is t })
         ∙ sym (ap plane (is-lower l))
 
-    pub upper-read : 3 ≤ i → n ≡ vec (λ j. negℤ (unit (i - 3) j)) → _≡_ {A = Plane} (record { normal = n; distance = R (pos 0 -ℤ R d) }) (plane (faceAt box i))
+    pub upper-read : 3 ≤ i → n ≡ vec (λ j. negℤ (axisDirection (i - 3) j)) → _≡_ {A = Plane} (record { normal = n; distance = R (pos 0 -ℤ R d) }) (plane (faceAt box i))
     upper-read l e =
         (λ t. record { normal = e t; distance = (turned-is distanceLimit (lit≤ tt) d small ∙ ap negℤ f) t })
         ∙ sym (ap plane (is-upper l))

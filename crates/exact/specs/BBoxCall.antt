@@ -48,9 +48,9 @@ boxWithin box = axisWithin box 0 && axisWithin box 1 && axisWithin box 2
 -- How many planes a view has, where nothing is refused: 1 for the box's length and for a view below that of the fewest planes, 12 for the count, 1 for another
 -- length than the count's, 2 for the witness, 7 for a number past its limit and for a least coordinate above its greatest. The witness has room for so many
 -- numbers.
-unfoldable pub checked : List ℤ → List ℤ → ℕ → Outcome ℕ
+unfoldable pub countChecked : List ℤ → List ℤ → ℕ → Outcome ℕ
 unfolding every
-checked view box room =
+countChecked view box room =
     let n = countOf (numberAt view 0) in
     unless (has rangeLength box && leb (viewLength fewestPlanes) (length view)) (refused 1)
     (unless (permitted n) (refused 12)
@@ -74,7 +74,7 @@ Answers view box before answer after (result n) = Decided (planesOf view n) (low
 
 -- What a call answers of a view, a box and the numbers before in the slice, and the numbers after. Which witness it is, is left open; that it is one is not.
 abbrev pub WholeBoxCall : List ℤ → List ℤ → List ℤ → Outcome Bool → List ℤ → Type 0
-WholeBoxCall view box before answer after = Answers view box before answer after (checked view box (length before))
+WholeBoxCall view box before answer after = Answers view box before answer after (countChecked view box (length before))
 
 -- The same where the verdict goes through a reference to a number: 0 or the number of the refusal, and what stands there afterwards.
 pub record WholeBoxPut (view box before : List ℤ) (there : ℕ) (r : Lone ℕ) (after : List ℤ) : Type 0 where

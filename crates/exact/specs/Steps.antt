@@ -88,11 +88,11 @@ pub record Products (u v : Vec3i) : Type 0 where
 -- ---- the constraints
 
 -- the direction along an axis
-abbrev pub unit : ℕ → ℕ → ℤ
-unit zero zero = pos 1
-unit zero (suc j) = pos 0
-unit (suc i) zero = pos 0
-unit (suc i) (suc j) = unit i j
+abbrev pub axisDirection : ℕ → ℕ → ℤ
+axisDirection zero zero = pos 1
+axisDirection zero (suc j) = pos 0
+axisDirection (suc i) zero = pos 0
+axisDirection (suc i) (suc j) = axisDirection i j
 
 -- how many faces a box has
 abbrev pub faces : ℕ
@@ -101,8 +101,8 @@ faces = 6
 -- the coordinate i is at least the least, and the coordinate i - 3 at most the greatest
 abbrev pub faceAt : List ℤ → ℕ → WholePlane
 faceAt box i = cond (ltb i 3)
-    (record { normal = unit i; distance = numberAt box i })
-    (record { normal = λ j. negℤ (unit (i - 3) j); distance = negℤ (numberAt box i) })
+    (record { normal = axisDirection i; distance = numberAt box i })
+    (record { normal = λ j. negℤ (axisDirection (i - 3) j); distance = negℤ (numberAt box i) })
 
 abbrev pub constraintAt : List ℤ → List ℤ → ℕ → WholePlane
 constraintAt view box i = cond (ltb i faces) (faceAt box i) (planeAt view (i - faces))

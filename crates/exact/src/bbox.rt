@@ -5,7 +5,7 @@ ghost use Prim.Native.Nat.{_<_};
 ghost use lib.ListN.{length};
 ghost use Rattle.number.specs.Limits.{rangeLength};
 ghost use Rattle.number.specs.Answer.{countedOf, verdictOf};
-ghost use Rattle.exact.specs.BBoxCall.{witnessLength, axisWithin, checked, WholeBoxCall};
+ghost use Rattle.exact.specs.BBoxCall.{witnessLength, axisWithin, countChecked, WholeBoxCall};
 ghost use Rattle.exact.specs.Steps.{SmallPoint};
 use crate::plane::Point;
 use crate::search::reaches;
@@ -52,7 +52,7 @@ fn put(p: Point, witness: &mut [i64])
 
 // How many planes a view has, where nothing is refused.
 fn checked(view: &[i32], bounds: &[i32], room: usize) -> Counted
-    ensures { λ r. ⌜ countedOf r ≡ checked (now (view .entry)) (now (bounds .entry)) room ⌝ }
+    ensures { λ r. ⌜ countedOf r ≡ countChecked (now (view .entry)) (now (bounds .entry)) room ⌝ }
 {
     if bounds.len() != RANGE_LENGTH {
         return Counted::Refused(Refusal::InputLength);

@@ -8,7 +8,7 @@ ghost use lib.Signed.{ltZ};
 ghost use Rattle.number.specs.Limits.{normalLimit, distanceLimit};
 ghost use Rattle.whole.specs.SegmentCall.{numberAt, planeStart, planeAt, planeWithin};
 ghost use Rattle.exact.specs.BBoxCall.{lowCorner, boxWithin};
-ghost use Rattle.exact.specs.Steps.{vecOf, vec, plane, unit, faces, faceAt, constraintAt, farthest, wholePoint, Sized, Constraints, SmallPoint, Seen};
+ghost use Rattle.exact.specs.Steps.{vecOf, vec, plane, axisDirection, faces, faceAt, constraintAt, farthest, wholePoint, Sized, Constraints, SmallPoint, Seen};
 use crate::plane::Plane;
 use crate::plane::Point;
 use crate::vec::Vec3i;
@@ -28,7 +28,7 @@ pub(crate) fn number(s: &[i32], i: usize) -> i64
 // The direction along an axis.
 fn axis(i: u32) -> Vec3i
     requires { ⌜ i < 3 ⌝ }
-    ensures { λ r. ⌜ r ≡ vec (unit i) ⌝ }
+    ensures { λ r. ⌜ r ≡ vec (axisDirection i) ⌝ }
 {
     if i == 0 {
         return Vec3i { x: 1, y: 0, z: 0 };
@@ -42,7 +42,7 @@ fn axis(i: u32) -> Vec3i
 // And against it.
 fn against(i: u32) -> Vec3i
     requires { ⌜ i < 3 ⌝ }
-    ensures { λ r. ⌜ r ≡ vec (λ j. negℤ (unit i j)) ⌝ }
+    ensures { λ r. ⌜ r ≡ vec (λ j. negℤ (axisDirection i j)) ⌝ }
 {
     if i == 0 {
         return Vec3i { x: -1, y: 0, z: 0 };

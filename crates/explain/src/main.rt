@@ -1,7 +1,11 @@
 // Reads a farm file from standard input to its end, and prints for each box its number, whether it is in view and why; or that the
 // file is refused.
-use farm::lines::front;
-use reason::lines::lines;
+use farm::text::front;
+use number::limits::LARGEST_FILE;
+use reason::explain::explain;
+
+// One byte more than the largest file has: what is longer need not be kept to be told.
+const FILE_ROOM: usize = LARGEST_FILE + 1;
 
 // Reads on, and answers whether there was more.
 fn passes_more() -> bool {
@@ -17,10 +21,9 @@ fn pass_rest() {
 }
 
 fn main() {
-    // one byte more than the largest file has: what is longer need not be kept to be told
-    let mut file = [0u8; 65537];
+    let mut file = [0u8; FILE_ROOM];
     let size = io::read_full(0, &mut file);
     pass_rest();
-    let text = lines(&file[..size]);
+    let text = explain(&file[..size]);
     io::write_all(1, front(&text.bytes, text.size));
 }

@@ -14,7 +14,7 @@ use lib.Ieee.{Float, binary64, ofBits}
 use Rattle.number.specs.Limits.{boxLength, fewestPlanes, largestFile, fewestSections, mostSections}
 use Rattle.number.specs.Every.{every}
 use Rattle.number.specs.Answer.{Outcome, refused, result, unless}
-use Rattle.number.specs.Bytes.{littleEndian, wordAt, numberAt, numbersAt}
+use Rattle.number.specs.Bytes.{littleEndian, wordAt, f64At, numbersAt}
 use Rattle.number.specs.Slice.{allFinite}
 use Rattle.verdict.specs.BBox.{boxOf}
 use Rattle.verdict.specs.BBoxCalls.{flagged}
@@ -22,10 +22,10 @@ use Rattle.verdict.specs.View.{volumeLength, wholePart, isCount, planesOf}
 use Rattle.verdict.specs.Frustum.{boxInView}
 use Rattle.farm.specs.declared.directory.Section.{Section}
 use Rattle.farm.specs.Directory.{sectionCount, sectionAt, sectionsFrom, volumeSection, boxSections, directoryEnd, numbersOf, inOrder, wellFormed}
-use Rattle.farm.specs.FarmFile.{volumeThere, countNumber, planeCount, sized, allFlagged, numbersFinite, inView, checked, farmFile}
-use Rattle.farm.specs.Reading.{AgreeOutsideGaps, GapsUnread, AnsweredApart, AnsweredFinite}
+use Rattle.farm.specs.FarmFile.{volumeThere, countNumber, planeCount, boxesSized, sized, boxesFlagged, numbersFinite, inView, checkedFile, farmFile}
+use Rattle.farm.specs.Reading.{AgreeOutsideGaps, GapsUnread, AnsweredApart, AnsweredFileFinite}
 use Rattle.farm.proofs.Placed.{at-least, placed, apart, section-finite}
-use Rattle.farm.proofs.Answers.{well-formed, finite-numbers}
+use Rattle.farm.proofs.Answers.{ready}
 
 -- ---- words and numbers of two strings of one length
 
@@ -49,7 +49,7 @@ module _ (b c : List ℕ) (e : length b ≡ length c) where
   same-numbers (suc n) i h =
       let first = ap (ofBits binary64) (same-word 8 i (λ j p q. h j p (omega (arith, q)))) in
       let rest = same-numbers n (i + 8) (λ j p q. h j (omega (arith, p)) (omega (arith, q))) in
-      ap (λ (x : Float). x ∷ numbersAt b (i + 8) n) first ∙ ap (λ (l : List Float). numberAt c i ∷ l) rest
+      ap (λ (x : Float). x ∷ numbersAt b (i + 8) n) first ∙ ap (λ (l : List Float). f64At c i ∷ l) rest
 
 -- ---- tests and answers that agree on the sections of a directory
 
@@ -121,8 +121,8 @@ module _ (b c : List ℕ) (a : AgreeOutsideGaps b c) where
         let s = sectionAt b k in
         same-numbers b c (a .size) (s .size / 8) (s .offset) (λ j p q. a .sections k j h p (omega (arith, q, mul-div-le (s .size) 8)))
 
-    same-flags : allFlagged b ≡ allFlagged c
-    unfolding allFlagged
+    same-flags : boxesFlagged b ≡ boxesFlagged c
+    unfolding boxesFlagged
     same-flags =
         same-every b count (λ s. flagged (numbersOf b s)) (λ s. flagged (numbersOf c s)) (λ k h. ap flagged (numbers-same k h)) 1 (count - 1) (omega (arith, two))
         ∙ ap (every (λ s. flagged (numbersOf c s))) same-boxes
@@ -142,10 +142,10 @@ module _ (b c : List ℕ) (a : AgreeOutsideGaps b c) where
           let s = volumeSection b in
           let there = leb-true (8 * volumeLength fewestPlanes) (s .size) v in
           ap (ofBits binary64) (same-word b c (a .size) 8 (s .offset) (λ j p q. a .sections 0 j (omega (arith, two)) p (omega (arith, q, there))))
-          ∙ ap (λ (t : Section). numberAt c (t .offset)) same-volume
+          ∙ ap (λ (t : Section). f64At c (t .offset)) same-volume
 
       same-sizes : sized b ≡ sized c
-      unfolding sized
+      unfolding sized boxesSized
       same-sizes =
           ap (λ (x : Float). eqb (volumeSection b .size) (8 * volumeLength (wholePart x)) && every (λ s. eqb (s .size) (8 * boxLength)) (boxSections b)) same-number
           ∙ ap (λ (s : Section). eqb (s .size) (8 * volumeLength (planeCount c)) && every (λ s. eqb (s .size) (8 * boxLength)) (boxSections b)) same-volume
@@ -165,12 +165,12 @@ module _ (b c : List ℕ) (a : AgreeOutsideGaps b c) where
   behind n s g f vs = unless n (refused 12) (unless s (refused 10) (unless g (refused 3) (unless f (refused 13) (result vs))))
 
   same-behind : wellFormed b ≡ true → volumeThere b ≡ true
-      → behind (isCount (countNumber b)) (sized b) (allFlagged b) (numbersFinite b) (map (inView b) (boxSections b))
-      ≡ behind (isCount (countNumber c)) (sized c) (allFlagged c) (numbersFinite c) (map (inView c) (boxSections c))
+      → behind (isCount (countNumber b)) (sized b) (boxesFlagged b) (numbersFinite b) (map (inView b) (boxSections b))
+      ≡ behind (isCount (countNumber c)) (sized c) (boxesFlagged c) (numbersFinite c) (map (inView c) (boxSections c))
   same-behind w v = λ t. behind (isCount (same-number w v t)) (same-sizes w v t) (same-flags w t) (same-finite w t) (same-views w v t)
 
-  same-checked : (f : Bool) → wellFormed b ≡ f → (v : Bool) → (f ≡ true → volumeThere b ≡ v) → checked b ≡ checked c
-  unfolding checked
+  same-checked : (f : Bool) → wellFormed b ≡ f → (v : Bool) → (f ≡ true → volumeThere b ≡ v) → checkedFile b ≡ checkedFile c
+  unfolding checkedFile
   same-checked false w v h = rw (w, sym same-form ∙ w)
   same-checked true w false h = rw (w, sym same-form ∙ w, h refl, sym (same-there w) ∙ h refl)
   same-checked true w true h = rw (w, sym same-form ∙ w, h refl, sym (same-there w) ∙ h refl) (same-behind w (h refl))
@@ -179,13 +179,13 @@ module _ (b c : List ℕ) (a : AgreeOutsideGaps b c) where
   unfolding farmFile
   same-answer =
       ap (λ (o : Outcome (List Bool)). unless (leb (length b) largestFile) (refused 1) o) (same-checked (wellFormed b) refl (volumeThere b) (λ q. refl))
-      ∙ ap (λ (n : ℕ). unless (leb n largestFile) (refused 1) (checked c)) (a .size)
+      ∙ ap (λ (n : ℕ). unless (leb n largestFile) (refused 1) (checkedFile c)) (a .size)
 
 pub gaps-unread : GapsUnread
 gaps-unread b c a = same-answer b c a
 
 pub answered-apart : AnsweredApart
-answered-apart b vs e = let w = well-formed b vs e in record { inside = placed b w; apart = apart b w }
+answered-apart b vs e = let w = ready b vs e .measured .formed in record { inside = placed b w; apart = apart b w }
 
-pub answered-finite : AnsweredFinite
-answered-finite b vs e i h = subst T (sym (section-finite b (finite-numbers b vs e) i h)) tt
+pub answered-finite : AnsweredFileFinite
+answered-finite b vs e i h = subst T (sym (section-finite b (ready b vs e .finite) i h)) tt

@@ -1,7 +1,6 @@
 -- The laws that the proofs of this crate, and of the crates above it, cite.
 pub mod SectionsLeft
 pub mod Placed
-pub mod PlaneCounts
 pub mod Measured
 pub mod Rooms
 pub mod Batch

@@ -8,7 +8,7 @@ use lib.Ieee.{Float}
 use Rattle.number.specs.Limits.{fewestPlanes, mostPlanes}
 use Rattle.number.specs.Answer.{result}
 use Rattle.number.specs.Slice.{at}
-use Rattle.number.specs.Bytes.{numberAt}
+use Rattle.number.specs.Bytes.{f64At}
 use Rattle.number.proofs.Words.{as-many, number-at}
 use Rattle.verdict.specs.View.{volumeLength, planeCountOf, planesHeld}
 use Rattle.verdict.proofs.PlaneCount.{a-count, count-within}
@@ -37,7 +37,7 @@ module _ (b : List ℕ) (r : Measured b) where
   count-first : at volume 0 ≡ countNumber b
   count-first =
       number-at b (volumeSection b .offset) (volumeSection b .size / 8) 0 (omega (arith, volume-numbers))
-      ∙ ap (numberAt b) (omega arith)
+      ∙ ap (f64At b) (omega arith)
 
   -- the record holds the planes that its count says
   pub held : result (planeCount b) ≡ planesHeld volume

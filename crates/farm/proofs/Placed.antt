@@ -16,7 +16,7 @@ use Rattle.verdict.specs.View.{volumeLength}
 use Rattle.verdict.specs.BBoxCalls.{flagged}
 use Rattle.farm.specs.declared.directory.Section.{Section}
 use Rattle.farm.specs.Directory.{sectionCount, sectionAt, sectionsFrom, volumeSection, directoryEnd, endOf, numbersOf, inOrder, wellFormed}
-use Rattle.farm.specs.FarmFile.{planeCount, sized, allFlagged, numbersFinite}
+use Rattle.farm.specs.FarmFile.{planeCount, boxesSized, sized, boxesFlagged, numbersFinite}
 
 -- ---- a test that all sections pass
 
@@ -126,11 +126,11 @@ module _ (b : List ℕ) (s : sized b ≡ true) where
   volume-sized = eqb-true _ _ (both-hold (eqb (volumeSection b .size) (8 * volumeLength (planeCount b))) _ s .0)
 
   pub box-sized : (i : ℕ) → 0 < i → i < sectionCount b → sectionAt b i .size ≡ 8 * boxLength
-  unfolding sized
+  unfolding sized boxesSized
   box-sized i p h = eqb-true _ _ (each-box b (λ s. eqb (s .size) (8 * boxLength)) (sectionCount b) i (both-hold (eqb (volumeSection b .size) (8 * volumeLength (planeCount b))) _ s .1) p h)
 
-pub box-flagged : (b : List ℕ) → allFlagged b ≡ true → (i : ℕ) → 0 < i → i < sectionCount b → flagged (numbersOf b (sectionAt b i)) ≡ true
-unfolding allFlagged
+pub box-flagged : (b : List ℕ) → boxesFlagged b ≡ true → (i : ℕ) → 0 < i → i < sectionCount b → flagged (numbersOf b (sectionAt b i)) ≡ true
+unfolding boxesFlagged
 box-flagged b f i p h = each-box b (λ s. flagged (numbersOf b s)) (sectionCount b) i f p h
 
 pub section-finite : (b : List ℕ) → numbersFinite b ≡ true → (i : ℕ) → i < sectionCount b → allFinite (numbersOf b (sectionAt b i)) ≡ true

@@ -1,13 +1,13 @@
 -- A list of sections, read from the front or from behind; a test of all, section by section. Assumes nothing.
 use mathlib.Core.Path.{_≡_, refl, sym, ap, _∙_}
 use mathlib.Core.Bool.{Bool, true, false, _&&_}
-use mathlib.Core.List.{List, [], _∷_, _++_}
+use mathlib.Core.List.{List, [], _∷_, map}
 use Prim.Native.Nat.{ℕ, zero, suc, _+_, _-_, _<_, _≤_}
 use native.Mathlib.Numerals.{add-one}
 use native.Mathlib.Omega.{arith}
 use borrow.Author.Tests.{le-leb, lt-leb}
 use lib.Dec.{leb}
-use lib.ListN.{length}
+use lib.ListN.{length, getD}
 use Rattle.number.specs.Every.{every}
 use Rattle.number.proofs.Every.{first-fails, first-holds}
 use Rattle.farm.specs.declared.directory.Section.{Section}
@@ -18,15 +18,12 @@ unfolding sectionsFrom
 as-many b i zero = refl
 as-many b i (suc n) = ap suc (as-many b (suc i) n)
 
-from-behind : (b : List ℕ) (i n : ℕ) → sectionsFrom b i (suc n) ≡ sectionsFrom b i n ++ (sectionAt b (i + n) ∷ [])
+-- what is made of each, by its place
+pub made-at : {A : Type 0} (f : Section → A) (b : List ℕ) (j n i : ℕ) (d : A) → i < n → getD (map f (sectionsFrom b j n)) i d ≡ f (sectionAt b (j + i))
 unfolding sectionsFrom
-from-behind b i zero = ap (λ (k : ℕ). sectionAt b k ∷ []) (omega arith)
-from-behind b i (suc n) =
-    let e : suc i + n ≡ i + suc n = omega arith in
-    ap (λ (l : List Section). sectionAt b i ∷ l) (from-behind b (suc i) n ∙ ap (λ (k : ℕ). sectionsFrom b (suc i) n ++ (sectionAt b k ∷ [])) e)
-
-pub last-section : (b : List ℕ) (i n : ℕ) → sectionsFrom b i (n + 1) ≡ sectionsFrom b i n ++ (sectionAt b (i + n) ∷ [])
-last-section b i n = ap (sectionsFrom b i) (add-one n) ∙ from-behind b i n
+made-at f b j zero i d h = absurd (omega arith)
+made-at f b j (suc n) zero d h = let z : j ≡ j + 0 = omega arith in ap (λ (k : ℕ). f (sectionAt b k)) z
+made-at f b j (suc n) (suc i) d h = let z : suc j + i ≡ j + suc i = omega arith in made-at f b (suc j) n i d (omega arith) ∙ ap (λ (k : ℕ). f (sectionAt b k)) z
 
 pub all-left : (b : List ℕ) (n : ℕ) → sectionsFrom b 0 (n - 0) ≡ sectionsFrom b 0 n
 all-left b n = let e : n - 0 ≡ n = omega arith in ap (sectionsFrom b 0) e

@@ -8,7 +8,9 @@ use borrow.Author.Tests.{le-leb, lt-leb}
 use lib.Dec.{ltb, leb}
 use lib.ListN.{length, length-append, length-drop, take, drop, drop-of-length-le, take-append-drop}
 use lib.Seq.{length-take-le, take-at, take-all, take-length, drop-append-add, drop-drop}
-use Rattle.farm.specs.Lines.{decimal, yesOrNo, line, linesFrom, inserted, Puts}
+use Rattle.farm.specs.Text.{decimal, linesFrom, inserted, Puts}
+use Rattle.farm.specs.Lines.{yesOrNo, line}
+use Rattle.farm.specs.Steps.{Put, lineRoom}
 
 module _ (t : List ℕ) (at : ℕ) (h : at ≤ length t) (a b : List ℕ) where
   as-long : length (take at t ++ a) ≡ at + length a
@@ -49,28 +51,29 @@ short-decimal n = by-digits (ltb n 10) (ltb n 100)
     by-digits false true = omega arith
     by-digits false false = omega arith
 
-pub short-line : (k : ℕ) (v : Bool) → length (line k v) ≤ 7
+module _ {A : Type 0} (line : ℕ → A → List ℕ) where
+  lines-both : (k : ℕ) (a b : List A) → linesFrom line k (a ++ b) ≡ linesFrom line k a ++ linesFrom line (k + length a) b
+  unfolding linesFrom
+  lines-both k [] b = let e : k ≡ k + 0 = omega arith in ap (λ (n : ℕ). linesFrom line n b) e
+  lines-both k (x ∷ a) b =
+      let e : suc k + length a ≡ k + suc (length a) = omega arith in
+      ap (λ (l : List ℕ). line k x ++ l) (lines-both (suc k) a b ∙ ap (λ (n : ℕ). linesFrom line (suc k) a ++ linesFrom line n b) e)
+      ∙ sym (append-assoc (line k x) (linesFrom line (suc k) a) (linesFrom line (k + suc (length a)) b))
+
+  -- one line more
+  pub lines-more : (k : ℕ) (xs : List A) (x : A) → linesFrom line k (xs ++ (x ∷ [])) ≡ linesFrom line k xs ++ line (k + length xs) x
+  unfolding linesFrom
+  lines-more k xs x = lines-both k xs (x ∷ []) ∙ ap (λ (l : List ℕ). linesFrom line k xs ++ l) (append-nil (line (k + length xs) x))
+
+pub short-line : (k : ℕ) (v : Bool) → length (line k v) ≤ lineRoom
 unfolding line
 short-line k true = omega (arith, length-append (decimal k) (yesOrNo true), short-decimal k)
 short-line k false = omega (arith, length-append (decimal k) (yesOrNo false), short-decimal k)
 
-lines-both : (k : ℕ) (a b : List Bool) → linesFrom k (a ++ b) ≡ linesFrom k a ++ linesFrom (k + length a) b
-unfolding linesFrom
-lines-both k [] b = let e : k ≡ k + 0 = omega arith in ap (λ (n : ℕ). linesFrom n b) e
-lines-both k (v ∷ a) b =
-    let e : suc k + length a ≡ k + suc (length a) = omega arith in
-    ap (λ (l : List ℕ). line k v ++ l) (lines-both (suc k) a b ∙ ap (λ (n : ℕ). linesFrom (suc k) a ++ linesFrom n b) e)
-    ∙ sym (append-assoc (line k v) (linesFrom (suc k) a) (linesFrom (k + suc (length a)) b))
-
--- one line more
-pub lines-more : (k : ℕ) (vs : List Bool) (v : Bool) → linesFrom k (vs ++ (v ∷ [])) ≡ linesFrom k vs ++ line (k + length vs) v
-unfolding linesFrom
-lines-more k vs v = lines-both k vs (v ∷ []) ∙ ap (λ (l : List ℕ). linesFrom k vs ++ l) (append-nil (line (k + length vs) v))
-
-pub short-lines : (k : ℕ) (vs : List Bool) → length (linesFrom k vs) ≤ 7 * length vs
+pub short-lines : (k : ℕ) (vs : List Bool) → length (linesFrom line k vs) ≤ lineRoom * length vs
 unfolding linesFrom
 short-lines k [] = omega arith
-short-lines k (v ∷ vs) = omega (arith, length-append (line k v) (linesFrom (suc k) vs), short-line k v, short-lines (suc k) vs)
+short-lines k (v ∷ vs) = omega (arith, length-append (line k v) (linesFrom line (suc k) vs), short-line k v, short-lines (suc k) vs)
 
 -- a copy to the front of what is left of a text
 pub part-put : (t : List ℕ) (at : ℕ) (s ys : List ℕ) → at ≤ length t → ys ≡ take (length s) s ++ drop (length s) (take (length t - at) (drop at t))
@@ -81,10 +84,7 @@ part-put t at s ys h e =
     ∙ ap (λ (l : List ℕ). s ++ drop (length s) l) (take-all (length t - at) (drop at t) (omega (arith, length-drop at t))))
     ∙ sym (append-assoc (take at t) s (drop (length s) (drop at t))) ∙ ap (λ (l : List ℕ). take at t ++ s ++ l) (drop-drop (length s) at t)
 
--- ---- what putting answers and leaves: the place behind the bytes, and the text with them
-
-abbrev pub Put : List ℕ → ℕ → List ℕ → ℕ → List ℕ → Type 0
-Put t at s r l = (r ≡ at + length s) × (l ≡ inserted t at s)
+-- ---- what putting answers and leaves
 
 module _ (t : List ℕ) (at : ℕ) (a : List ℕ) (r : ℕ) (l : List ℕ) (p : Put t at a r l) where
   pub put-then : (b : List ℕ) (r' : ℕ) (l' : List ℕ) → at ≤ length t → Put l r b r' l' → Put t at (a ++ b) r' l'

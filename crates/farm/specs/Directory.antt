@@ -1,12 +1,13 @@
 -- The farm file, a list of bytes: a directory of its sections, then these. Paper 02, "The farm file". Definitions only.
 use Prim.Native.Nat.{ℕ, zero, suc, _+_, _-_, _*_, _/_}
-use mathlib.Core.Bool.{Bool, true, cond, _&&_}
+use mathlib.Core.Path.{_≡_}
+use mathlib.Core.Bool.{Bool, true, _&&_}
 use mathlib.Core.List.{List, [], _∷_, _++_}
 use lib.Dec.{leb}
-use lib.ListN.{length, take, drop}
+use lib.ListN.{length, take}
 use lib.Ieee.{Float}
 use Rattle.number.specs.Limits.{fewestSections, mostSections}
-use Rattle.number.specs.Bytes.{wordAt, numbersAt, loaded}
+use Rattle.number.specs.Bytes.{wordAt, numbersAt}
 use Rattle.farm.specs.declared.directory.Section.{Section}
 
 -- ---- the directory
@@ -49,18 +50,17 @@ endOf s = s .offset + s .size
 abbrev pub numbersOf : List ℕ → Section → List Float
 numbersOf b s = numbersAt b (s .offset) (s .size / 8)
 
--- ---- a section's numbers in front of a room
+-- those of several, one behind the other
+unfoldable pub numbersOfAll : List ℕ → List Section → List Float
+numbersOfAll b [] = []
+numbersOfAll b (s ∷ ss) = numbersOf b s ++ numbersOfAll b ss
 
-abbrev pub fitsIn : Section → List Float → Bool
-fitsIn s room = leb (s .size / 8) (length room)
+abbrev pub fileNumbers : List ℕ → List Float
+fileNumbers b = numbersOfAll b (sections b)
 
--- how many there are; none where the room is too small
-abbrev pub roomTaken : Section → List Float → ℕ
-roomTaken s room = cond (fitsIn s room) (s .size / 8) 0
-
--- what the room holds then, as far as the file has the section
-abbrev pub sectionLoaded : List ℕ → Section → List Float → List Float
-sectionLoaded b s room = cond (fitsIn s room) (loaded b (s .offset) (take (s .size / 8) room) ++ drop (s .size / 8) room) room
+-- numbers in front of a room
+abbrev pub InFront : List Float → List Float → Type 0
+InFront s room = take (length s) room ≡ s
 
 -- ---- which files are well formed
 

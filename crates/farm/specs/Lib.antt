@@ -2,5 +2,6 @@
 pub mod Directory
 pub mod FarmFile
 pub mod Reading
+pub mod Text
 pub mod Lines
 pub mod Steps

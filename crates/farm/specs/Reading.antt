@@ -21,8 +21,8 @@ abbrev pub AnsweredApart : Type 0
 AnsweredApart = (b : List ℕ) (vs : List Bool) → farmFile b ≡ result vs → SectionsApart b
 
 -- "The farm file does the same before printing": what has an answer has finite numbers alone, in the volume and in every box
-abbrev pub AnsweredFinite : Type 0
-AnsweredFinite = (b : List ℕ) (vs : List Bool) → farmFile b ≡ result vs → (i : ℕ) → i < sectionCount b → T (allFinite (numbersOf b (sectionAt b i)))
+abbrev pub AnsweredFileFinite : Type 0
+AnsweredFileFinite = (b : List ℕ) (vs : List Bool) → farmFile b ≡ result vs → (i : ℕ) → i < sectionCount b → T (allFinite (numbersOf b (sectionAt b i)))
 
 -- "Gaps are permitted and unread." A gap is what is neither of the directory nor of a section; these files agree elsewhere.
 pub record AgreeOutsideGaps (b c : List ℕ) : Type 0 where

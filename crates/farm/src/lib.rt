@@ -3,3 +3,4 @@ pub mod directory;
 pub mod farm_file;
 pub mod lines;
 pub mod sections;
+pub mod text;

@@ -20,7 +20,7 @@ use Rattle.verdict.specs.Frustum.{clipCorner}
 use Rattle.verdict.specs.FrustumCalls.{viewVolumeCall}
 use Rattle.verdict.specs.Marked.{plus, minus, three, four, boxRecord, identityRows}
 use Rattle.placed.specs.Placement.{turnedℤ, WholeBox}
-use Rattle.farmgrid.specs.Placement.{WholeVec4, WholeRange, WholeMatrix, Sized, NonEmpty, GridPoint, productℤ, cornerℤ}
+use Rattle.farmgrid.specs.Placement.{WholeVec4, WholeRange, WholeMatrix, MatrixWithin, NonEmpty, GridPoint, productℤ, cornerℤ}
 use Rattle.exact.specs.ExactPoint.{ExactPoint}
 use Rattle.farmgrid.specs.FarmGrid.{exactly}
 use Rattle.farmgrid.specs.Records.{Settled}
@@ -40,7 +40,7 @@ pub record AffineBox (B : WholeBox) : Type 0 where
   pub low : GridPoint (B .low)
   pub high : GridPoint (B .high)
   pub some : NonEmpty (B .low) (B .high)
-  pub entries : Sized boxMatrixLimit (B .matrix)
+  pub entries : MatrixWithin boxMatrixLimit (B .matrix)
   pub zeros : (i : ℕ) → i < 3 → B .matrix i 3 ≡ pos 0
   pub last : B .matrix 3 3 ≡ pos 1
 
@@ -56,7 +56,7 @@ pub record AffineBoxRecord (b : List Float) (B : WholeBox) : Type 0 where
 pub record ViewProjectionRecord (m : List Float) (g : ℕ → ℕ → ℤ) : Type 0 where
   pub numbers : length m ≡ matrixLength
   pub matrix : WholeMatrix (matrixOf m) g
-  pub entries : Sized viewProjectionLimit g
+  pub entries : MatrixWithin viewProjectionLimit g
 
 -- ---- exact points and their clip points
 
@@ -104,7 +104,7 @@ clipLimit = gridLimit * productLimit * 4
 -- The floats of the product and of the eight clip points are the whole numbers themselves, which stay below 2^53.
 pub record Unrounded (b : BBox3d) (m : Mat4d) (B : WholeBox) (g : ℕ → ℕ → ℤ) : Type 0 where
   pub product : WholeMatrix (product (b .matrix) m) (productℤ (B .matrix) g)
-  pub product-size : Sized productLimit (productℤ (B .matrix) g)
+  pub product-size : MatrixWithin productLimit (productℤ (B .matrix) g)
   pub corner : (k : ℕ) → WholeVec4 (clipCorner b m k) (clipCornerℤ B g k)
   pub corner-size : (k j : ℕ) → j < 4 → natAbs (clipCornerℤ B g k j) ≤ clipLimit
   pub small : clipLimit < 2 ^ 53

@@ -38,18 +38,18 @@ pub data Leaves : List (List Float) → List (List Float) → Type 0 where
 -- ---- the claim
 
 -- z is the coordinate along the axis j of a placed corner of one of the boxes listed
-pub data Coordinate (j : ℕ) (z : ℤ) : List WholeBox → Type 0 where
-  own : {B : WholeBox} {Bs : List WholeBox} (k : ℕ) → k < 8 → z ≡ placedCornerOf B k j → Coordinate j z (B ∷ Bs)
-  other : {B : WholeBox} {Bs : List WholeBox} → Coordinate j z Bs → Coordinate j z (B ∷ Bs)
+pub data CornerCoordinate (j : ℕ) (z : ℤ) : List WholeBox → Type 0 where
+  own : {B : WholeBox} {Bs : List WholeBox} (k : ℕ) → k < 8 → z ≡ placedCornerOf B k j → CornerCoordinate j z (B ∷ Bs)
+  other : {B : WholeBox} {Bs : List WholeBox} → CornerCoordinate j z Bs → CornerCoordinate j z (B ∷ Bs)
 
 -- z is along the axis j "the least [..] among the placed corners of all boxes listed", or "the greatest"
 pub record Least (Bs : List WholeBox) (j : ℕ) (z : ℤ) : Type 0 where
-  pub among : Coordinate j z Bs
-  pub least : {y : ℤ} → Coordinate j y Bs → z ≤ℤ y
+  pub among : CornerCoordinate j z Bs
+  pub least : {y : ℤ} → CornerCoordinate j y Bs → z ≤ℤ y
 
 pub record Greatest (Bs : List WholeBox) (j : ℕ) (z : ℤ) : Type 0 where
-  pub among : Coordinate j z Bs
-  pub greatest : {y : ℤ} → Coordinate j y Bs → y ≤ℤ z
+  pub among : CornerCoordinate j z Bs
+  pub greatest : {y : ℤ} → CornerCoordinate j y Bs → y ≤ℤ z
 
 -- A range from low to high, "coordinate by coordinate and zeros of either sign alike", of which these are the least and the greatest on each axis.
 pub record RangeExact (Bs : List WholeBox) (r : List Float) : Type 0 where

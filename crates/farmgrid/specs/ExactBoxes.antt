@@ -63,7 +63,7 @@ BoxVerdictExact =
     (view box w : List ℤ) (Ps : List WholePlane) (low high : ℕ → ℤ) (answer : Outcome Bool) (left : List ℤ)
     → ViewOf view Ps → BoundsOf box low high → length w ≡ witnessLength → WholeBoxCall view box w answer left → Exact Ps low high w answer left
 
--- ---- beside the filed verdict
+-- ---- beside the filed verdict: that of `intersects_bbox`, which the rate goes by
 
 -- For axis planes that share a point, and the placed box of a grid box, both give one answer.
 abbrev pub FiledAgrees : Type 0

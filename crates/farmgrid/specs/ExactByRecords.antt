@@ -1,5 +1,6 @@
 -- The exact verdict on the records of a volume and a box. On the grid it is never refused, and yes exactly where placed box and view share an exact point, whatever the
--- planes are; elsewhere it is refused with 7, once the filed verdict's own checks are passed. Definitions and statements only.
+-- planes are; elsewhere it is refused with 7, once the checks of the filed verdict are passed, which is that of `intersects_bbox` and which the rate goes by. Definitions and
+-- statements only.
 -- `ExactBoxCall v b answer` says that a call on the records v of a volume and b of a box may answer so.
 use mathlib.Core.Path.{_≡_}
 use mathlib.Core.Logic.{_↔_}

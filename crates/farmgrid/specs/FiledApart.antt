@@ -1,4 +1,4 @@
--- Where the filed verdict on a box and the exact one part: three worked inputs. Definitions and statements only.
+-- Where the filed verdict on a box, that of `intersects_bbox`, which the rate goes by, and the exact one part: three worked inputs. Definitions and statements only.
 -- A view is told by its whole numbers, and its record has the same numbers as floats, with four rays of zeros behind them.
 use mathlib.Core.Path.{_≡_}
 use mathlib.Core.Bool.{true, false}

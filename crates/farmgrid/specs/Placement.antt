@@ -38,7 +38,7 @@ pub record Within (b : ℕ) (p : ℕ → ℤ) : Type 0 where
   pub size : (i : ℕ) → i < 3 → natAbs (p i) ≤ b
 
 -- and for every number of a matrix
-pub record Sized (b : ℕ) (f : ℕ → ℕ → ℤ) : Type 0 where
+pub record MatrixWithin (b : ℕ) (f : ℕ → ℕ → ℤ) : Type 0 where
   pub size : (i j : ℕ) → i < 4 → j < 4 → natAbs (f i j) ≤ b
 
 -- "Empty means min > max on some axis."

@@ -9,8 +9,8 @@ use lib.Dec.{T}
 use lib.ListN.{length}
 use lib.Ieee.{Float}
 use Rattle.number.specs.Answer.{Outcome, result}
-use Rattle.blocking.specs.Calls.{blockingPlanesCall}
-use Rattle.blocking.specs.PlanesMeaning.{isSet}
+use Rattle.verdict.specs.PlanesBehind.{blockingPlanesCall}
+use Rattle.verdict.specs.PlanesMeaning.{isSet}
 use Rattle.whole.specs.Plane.{WholePlane}
 use Rattle.exact.specs.ExactPoint.{ExactPoint, Satisfies, InBox}
 use Rattle.placed.specs.Placement.{WholeBox}

@@ -1,7 +1,8 @@
 // The plane that alone hides a segment, and the planes that a box is behind.
 ghost use mathlib.Core.Path.{_≡_};
 ghost use Rattle.number.specs.Answer.{lone, put, putPlace};
-ghost use Rattle.blocking.specs.Calls.{blockingPlaneCall, blockingPlanesCall};
+ghost use Rattle.verdict.specs.PlanesBehind.{blockingPlanesCall};
+ghost use Rattle.blocking.specs.Calls.{blockingPlaneCall};
 
 #[no_mangle]
 pub extern "C" fn gf_blocking_plane(volume: &[f64], p0: &[f64], p1: &[f64], place: &mut u32) -> u32
@@ -14,5 +15,5 @@ pub extern "C" fn gf_blocking_plane(volume: &[f64], p0: &[f64], p1: &[f64], plac
 pub extern "C" fn gf_blocking_planes(volume: &[f64], bbox: &[f64], planes: &mut u32) -> u32
     ensures { λ r. ⌜ lone r (now (planes .exit)) ≡ put (blockingPlanesCall (now (volume .entry)) (now (bbox .entry))) (now (planes .entry)) ⌝ }
 {
-    blocking::blocking_calls::blocking_planes(volume, bbox).put(planes)
+    verdict::planes_behind_calls::blocking_planes(volume, bbox).put(planes)
 }

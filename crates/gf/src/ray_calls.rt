@@ -2,7 +2,7 @@
 ghost use mathlib.Core.Path.{_≡_};
 ghost use Rattle.number.specs.Answer.{answered};
 ghost use Rattle.verdict.specs.RayCalls.{pointCall, transformedRayCall, planeHitCall, triangleHitCall};
-ghost use Rattle.hail.specs.Hail.{left, raysCall};
+ghost use Rattle.rays.specs.Rays.{left, raysCall};
 
 #[no_mangle]
 pub extern "C" fn gf_ray_point(ray: &[f64], distance: f64, out: &mut [f64]) -> u32
@@ -49,5 +49,5 @@ pub extern "C" fn gf_rays_intersect_triangle(
 ) -> u32
     ensures { λ r. ⌜ left r (now (out .exit)) (now (status .exit)) ≡ raysCall (now (rays .entry)) (now (p0 .entry)) (now (p1 .entry)) (now (p2 .entry)) (now (out .entry)) (now (status .entry)) ⌝ }
 {
-    hail::hail_calls::intersect_triangle(rays, p0, p1, p2, out, status).status()
+    rays::rays_calls::intersect_triangle(rays, p0, p1, p2, out, status).status()
 }

@@ -1,6 +1,5 @@
 -- The laws that the proofs of this crate, and of the crates above it, cite.
 pub mod Written
-pub mod Records
 pub mod Slots
 pub mod BatchWays
 pub mod Ways

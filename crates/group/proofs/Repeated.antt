@@ -3,22 +3,23 @@
 use mathlib.Core.Path.{_≡_, refl, sym, ap, _∙_, subst}
 use mathlib.Core.Bool.{Bool, true, false}
 use mathlib.Core.List.{List, [], _∷_}
-use Prim.Native.Nat.{ℕ, zero, suc, _*_, _%_, _<_}
-use native.Mathlib.Nat.{div-add-mod'}
+use Prim.Native.Nat.{ℕ, zero, suc, _*_, _<_}
 use native.Mathlib.Omega.{arith}
 use borrow.Author.Tests.{ltb-true}
-use lib.Dec.{T, ltb, leb, eqb→eq}
-use lib.ListN.{length, take, drop, length-drop}
-use lib.Seq.{length-take-le}
+use lib.Dec.{ltb, leb}
+use lib.ListN.{length}
 use lib.Ieee.{Float}
-use Rattle.number.specs.Limits.{boxLength}
+use Rattle.number.specs.Limits.{boxLength, mostBoxes}
 use Rattle.number.specs.Answer.{Reply, refuse, write, unless, has}
+use Rattle.number.specs.Tabulate.{tabulate}
+use Rattle.number.specs.Records.{recordAt, records, recordCount, recordsOf, isWhole}
 use Rattle.number.proofs.Tests.{both-hold}
+use Rattle.number.proofs.Tabulate.{passes-at}
+use Rattle.number.proofs.Records.{record-length, whole-length, some-record}
 use Rattle.verdict.specs.BBox.{numbers, boxOf, combined}
 use Rattle.verdict.specs.BBoxCalls.{flagged, combineCall}
 use Rattle.verdict.specs.declared.bbox.BBox3d.{BBox3d}
-use Rattle.number.specs.Limits.{boxLength, mostBoxes}
-use Rattle.group.specs.Group.{records, boxCount, recordsOf, combinedWith, grouped, isGroup, isWhole, allFlagged, groupCall}
+use Rattle.group.specs.Group.{combinedWith, grouped, isGroup, allFlagged, groupCall}
 use Rattle.group.specs.Repeated.{LeftToRight, none, call, GroupIsRepeated}
 use Rattle.group.proofs.Written.{flag-read, read-back, combine-writes}
 
@@ -32,13 +33,14 @@ abbrev pub AllGood : List (List Float) → Type 0
 AllGood [] = Unit {0}
 AllGood (s ∷ ss) = Good s × AllGood ss
 
-records-good : (n : ℕ) (s : List Float) → length s ≡ n * boxLength → allFlagged (records n s) ≡ true → AllGood (records n s)
-unfolding records allFlagged
-records-good zero s h f = tt
-records-good (suc n) s h f =
-    let t = both-hold (flagged (take boxLength s)) (allFlagged (records n (drop boxLength s))) f in
-    let l = length-drop boxLength s in
-    (record { numbers = length-take-le boxLength s (omega arith); flag = t .0 }, records-good n (drop boxLength s) (omega arith) (t .1))
+all-good : (f : ℕ → List Float) (n : ℕ) → ((i : ℕ) → i < n → Good (f i)) → AllGood (tabulate f n)
+unfolding tabulate
+all-good f zero h = tt
+all-good f (suc n) h = (h 0 (omega arith), all-good (λ i. f (suc i)) n (λ i l. h (suc i) (omega arith)))
+
+records-good : (n : ℕ) (s : List Float) → length s ≡ n * boxLength → allFlagged (records boxLength n s) ≡ true → AllGood (records boxLength n s)
+records-good n s h f =
+    all-good (recordAt boxLength s) n (λ i l. record { numbers = record-length boxLength n s h i l; flag = passes-at flagged (recordAt boxLength s) n f i l })
 
 -- ---- the calls
 
@@ -86,10 +88,10 @@ from {a} A (t ∷ ts) g =
     let r = from (called-good A (g .0) a (A .numbers)) ts (g .1) in
     record { last = r .last; calls = call a (A .numbers) (r .calls) }
 
-from-first : (n : ℕ) (s : List Float) → 0 < n → AllGood (records n s) → Left (records n s)
-unfolding records
-from-first zero s h g = absurd (omega arith)
-from-first (suc n) s h g = from (g .0) (records n (drop boxLength s)) (g .1)
+from-first : (f : ℕ → List Float) (n : ℕ) → 0 < n → AllGood (tabulate f n) → Left (tabulate f n)
+unfolding tabulate
+from-first f zero h g = absurd (omega arith)
+from-first f (suc n) h g = from (g .0) (tabulate (λ i. f (suc i)) n) (g .1)
 
 -- ---- a group that is not refused
 
@@ -104,25 +106,16 @@ passed true true false flags v out e = absurd (omega (arith, e))
 passed true false room flags v out e = absurd (omega (arith, e))
 passed false whole room flags v out e = absurd (omega (arith, e))
 
-pub whole-length : (s : List Float) → isWhole s ≡ true → length s ≡ boxCount s * boxLength
-whole-length s e =
-    let m : length s % boxLength ≡ 0 = eqb→eq (length s % boxLength) 0 (subst T (sym e) tt) in
-    omega (arith, div-add-mod' (length s) boxLength)
-
--- it has at least one record
-some-record : (s : List Float) → isGroup s ≡ true → isWhole s ≡ true → 0 < boxCount s
-some-record s g w =
-    let l = ltb-true 0 (length s) (both-hold (ltb 0 (length s)) (leb (length s) (mostBoxes * boxLength)) g .0) in
-    omega (arith, whole-length s w)
-
 pub group-is-repeated : GroupIsRepeated
 unfolding groupCall
 group-is-repeated s out e =
-    let p = passed (isGroup s) (isWhole s) (has boxLength out) (allFlagged (recordsOf s)) (grouped (recordsOf s)) out e in
-    let g = records-good (boxCount s) s (whole-length s (p .1)) (p .2) in
-    let l = from-first (boxCount s) s (some-record s (p .0) (p .1)) g in
+    let p = passed (isGroup s) (isWhole boxLength s) (has boxLength out) (allFlagged (recordsOf boxLength s)) (grouped (recordsOf boxLength s)) out e in
+    let n = recordCount boxLength s in
+    let g = records-good n s (whole-length boxLength s (p .1)) (p .2) in
+    let some = ltb-true 0 (length s) (both-hold (ltb 0 (length s)) (leb (length s) (mostBoxes * boxLength)) (p .0) .0) in
+    let l = from-first (recordAt boxLength s) n (some-record boxLength s some (p .1)) g in
     record {
-      left = subst (λ (r : List Float). LeftToRight (recordsOf s) (r ∷ [])) (left-is g (l .calls) ∙ sym (p .3)) (l .calls);
+      left = subst (λ (r : List Float). LeftToRight (recordsOf boxLength s) (r ∷ [])) (left-is g (l .calls) ∙ sym (p .3)) (l .calls);
       accepted = λ l room-out room. let h = reached g l in ap (λ (x : Reply Float). x .status) (writes (h .0) (h .1 .0) room-out room);
       equal = λ l. left-is g l ∙ sym (p .3);
     }

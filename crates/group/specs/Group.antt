@@ -1,29 +1,17 @@
 -- Groups of boxes, "blocks grouped by orchard" of paper 02: several box records in one slice, combined into one box. Definitions only.
-use Prim.Native.Nat.{ℕ, zero, suc, _*_, _/_, _%_}
-use mathlib.Core.Bool.{Bool, true, _&&_}
+use Prim.Native.Nat.{_*_}
+use mathlib.Core.Bool.{Bool, _&&_}
 use mathlib.Core.List.{List, [], _∷_}
-use lib.Dec.{eqb, ltb, leb}
-use lib.ListN.{length, take, drop}
+use lib.Dec.{ltb, leb}
+use lib.ListN.{length}
 use lib.Ieee.{Float}
 use Rattle.number.specs.Limits.{boxLength, mostBoxes}
+use Rattle.number.specs.Every.{every}
 use Rattle.number.specs.Answer.{Reply, refuse, write, unless, has}
+use Rattle.number.specs.Records.{recordsOf, isWhole}
 use Rattle.verdict.specs.BBox.{numbers, boxOf, combined}
 use Rattle.verdict.specs.BBoxCalls.{flagged}
 use Rattle.verdict.specs.declared.bbox.BBox3d.{BBox3d}
-
--- ---- its records: "A group is a slice of 1 to 256 box records"
-
--- n records of a slice, from its first number on
-unfoldable pub records : ℕ → List Float → List (List Float)
-records zero s = []
-records (suc n) s = take boxLength s ∷ records n (drop boxLength s)
-
--- how many records it has
-abbrev pub boxCount : List Float → ℕ
-boxCount s = length s / boxLength
-
-abbrev pub recordsOf : List Float → List (List Float)
-recordsOf s = records (boxCount s) s
 
 -- ---- its box
 
@@ -41,20 +29,17 @@ grouped (s ∷ t ∷ ts) = numbers (combinedWith (boxOf s) (t ∷ ts))
 
 -- ---- what the operation answers and leaves: "11 for an empty slice or more than 5,888 numbers, then 1 if its length is not whole boxes, then 2 and 3"
 
+-- "A group is a slice of 1 to 256 box records"
 abbrev pub isGroup : List Float → Bool
 isGroup s = ltb 0 (length s) && leb (length s) (mostBoxes * boxLength)
 
-abbrev pub isWhole : List Float → Bool
-isWhole s = eqb (length s % boxLength) 0
-
-unfoldable pub allFlagged : List (List Float) → Bool
-allFlagged [] = true
-allFlagged (s ∷ ss) = flagged s && allFlagged ss
+abbrev pub allFlagged : List (List Float) → Bool
+allFlagged ss = every flagged ss
 
 unfoldable pub groupCall : List Float → List Float → Reply Float
-unfolding records allFlagged grouped
+unfolding grouped
 groupCall s out =
     unless (isGroup s) (refuse 11 out)
-    (unless (isWhole s) (refuse 1 out)
+    (unless (isWhole boxLength s) (refuse 1 out)
     (unless (has boxLength out) (refuse 2 out)
-    (unless (allFlagged (recordsOf s)) (refuse 3 out) (write (grouped (recordsOf s))))))
+    (unless (allFlagged (recordsOf boxLength s)) (refuse 3 out) (write (grouped (recordsOf boxLength s))))))

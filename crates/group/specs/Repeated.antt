@@ -4,8 +4,9 @@ use mathlib.Core.List.{List, [], _∷_}
 use lib.ListN.{length}
 use lib.Ieee.{Float}
 use Rattle.number.specs.Limits.{boxLength}
+use Rattle.number.specs.Records.{recordsOf}
 use Rattle.verdict.specs.BBoxCalls.{combineCall}
-use Rattle.group.specs.Group.{recordsOf, groupCall}
+use Rattle.group.specs.Group.{groupCall}
 
 -- What any number of calls of `combine`, none among them, leaves of a list of records, left to right: the first two go through it, and its result, numbers
 -- unchanged, takes their place. The slice that is lent for a result has its record's length.
@@ -26,4 +27,4 @@ pub record Repeated (ss : List (List Float)) (r : List Float) : Type 0 where
 
 -- "Its result is one box, equal to the repeated pairwise operation": whatever was lent, where the group is not refused.
 abbrev pub GroupIsRepeated : Type 0
-GroupIsRepeated = (s out : List Float) → groupCall s out .status ≡ 0 → Repeated (recordsOf s) (groupCall s out .out)
+GroupIsRepeated = (s out : List Float) → groupCall s out .status ≡ 0 → Repeated (recordsOf boxLength s) (groupCall s out .out)

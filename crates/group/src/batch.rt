@@ -4,8 +4,8 @@ ghost use Prim.Native.Nat.{_*_};
 ghost use lib.ListN.{length, take};
 ghost use Rattle.number.specs.Limits.{boxLength, mostPlanes};
 ghost use Rattle.number.specs.Answer.{reply};
+ghost use Rattle.number.specs.Records.{records};
 ghost use Rattle.verdict.specs.Rows.{planesInRows};
-ghost use Rattle.group.specs.Group.{records};
 ghost use Rattle.group.specs.Batch.{slotsBy, intersectsBoxesCall};
 use crate::group::all_flagged;
 use crate::group::record;
@@ -18,11 +18,12 @@ use verdict::rows::ROWS_LENGTH;
 use verdict::rows::Rows;
 use verdict::rows::load;
 use verdict::view::Held;
+use verdict::view::checked;
 
 // Whether each box is in view, by the first planes of the rows: 1 or 0 to its slot.
 fn answer(rows: &Rows, planes: u32, boxes: &[f64], out: &mut [u32])
     requires { ⌜ length (now boxes) ≡ length (now out) * boxLength ⌝ }
-    ensures { λ _. ⌜ now (out .exit) ≡ slotsBy (take «planes» (planesInRows (now (rows .entry)) mostPlanes)) (records (length (now (out .entry))) (now (boxes .entry))) ⌝ }
+    ensures { λ _. ⌜ now (out .exit) ≡ slotsBy (take «planes» (planesInRows (now (rows .entry)) mostPlanes)) (records boxLength (length (now (out .entry))) (now (boxes .entry))) ⌝ }
 {
     let mut i: usize = 0;
     while i < out.len() {
@@ -43,17 +44,14 @@ pub fn intersects_bboxes(volume: &[f64], boxes: &[f64], out: &mut [u32]) -> Writ
     }
     let count = boxes.len() / BOX_LENGTH;
     let mut rows = [0.0f64; ROWS_LENGTH];
-    match load(volume, &mut rows) {
+    match checked(
+        volume,
+        out.len() == count,
+        all_flagged(boxes, count),
+        all_finite(boxes),
+    ) {
         Held::Planes(planes) => {
-            if out.len() != count {
-                return Written::Refused(Refusal::OutputLength);
-            }
-            if !all_flagged(boxes, count) {
-                return Written::Refused(Refusal::Kind);
-            }
-            if !(all_finite(volume) & all_finite(boxes)) {
-                return Written::Refused(Refusal::MissingNumber);
-            }
+            load(volume, &mut rows);
             answer(&rows, planes, boxes, out);
             Written::Done
         }

@@ -16,7 +16,7 @@ use Rattle.matrix.specs.declared.vec.Vec3d.{Vec3d}
 use Rattle.matrix.specs.declared.range.Range3d.{Range3d}
 use Rattle.matrix.specs.Vec.{axis, vec3, eachAxis}
 use Rattle.matrix.specs.Range.{range, emptyAlong, isEmpty, joined, union}
-use Rattle.matrix.specs.Signs.{Values, Filled, AllFilled, none, more, Grouping, one, both, united, listed}
+use Rattle.matrix.specs.Signs.{Values, Filled, AllFilled, none, more, Grouping, one, both, united, unitedRanges}
 use Rattle.matrix.specs.Signs.{IntersectionEitherOrder, UnionEitherOrder, UnionEveryOrder}
 use Rattle.matrix.proofs.Same.{same-vec3, same-range}
 use Rattle.matrix.proofs.Axes.{along}
@@ -185,16 +185,16 @@ total-moved (List·Permᴰ·swap {a = a} {b = b} {l = l} p q) (more f (more g h)
     swapped a b (total l) (f .values) (g .values) (total-values h) ∙ ap₂ joined q (ap (λ (r : Range3d). joined r (total l)) p)
 total-moved (List·Permᴰ·trans d c) h = total-moved d h ∙ total-moved c (moved-filled d h)
 
-united-filled : (p : Grouping) → AllFilled (listed p) → (united p ≡ total (listed p)) × Filled (united p)
-unfolding united listed total
+united-filled : (p : Grouping) → AllFilled (unitedRanges p) → (united p ≡ total (unitedRanges p)) × Filled (united p)
+unfolding united unitedRanges total
 united-filled (one r) (more f none) = (sym (with-none r), f)
 united-filled (both p q) h =
-    let a = first-filled (listed p) (listed q) h in
-    let b = second-filled (listed p) (listed q) h in
+    let a = first-filled (unitedRanges p) (unitedRanges q) h in
+    let b = second-filled (unitedRanges p) (unitedRanges q) h in
     let (e, E) = united-filled p a in
     let (g, G) = united-filled q b in
     let j = union-joins (united p) (united q) (E .some) (G .some) in
-    (j ∙ ap₂ joined e g ∙ sym (total-append (listed p) (listed q) a b), subst Filled (sym j) (filled-joined (united p) (united q) E G))
+    (j ∙ ap₂ joined e g ∙ sym (total-append (unitedRanges p) (unitedRanges q) a b), subst Filled (sym j) (filled-joined (united p) (united q) E G))
 
 pub union-every-order : UnionEveryOrder
 union-every-order p q d h = united-filled p h .0 ∙ total-moved d h ∙ sym (united-filled q (moved-filled d h) .0)

@@ -3,7 +3,7 @@
 use mathlib.Core.Path.{_≡_, refl, sym, _∙_, subst}
 use mathlib.Core.Bool.{Bool, true, false, _&&_, _||_}
 use lib.Dec.{T}
-use lib.Ieee.{Float, lt, le, eq, isNan}
+use lib.Ieee.{Float, lt, le, eq}
 use Rattle.number.proofs.Comparisons.{refuted, lt-not-le, less-is-number}
 use Rattle.number.proofs.Extremes.{equal-numbers}
 use Rattle.number.proofs.Tests.{both-hold}

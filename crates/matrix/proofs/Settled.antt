@@ -3,9 +3,9 @@
 use mathlib.Core.Path.{_≡_, refl, sym, ap, ap₂, _∙_, subst}
 use mathlib.Core.Bool.{Bool, true, false, not, cond, _&&_}
 use Prim.Native.Nat.{ℕ, zero, suc, _^_}
-use lib.IntN.{ℤ, pos}
+use lib.IntN.{ℤ}
 use lib.Dec.{T, eqb}
-use lib.Ieee.{Float, nan, inf, fin, binary64, add, lt, eq, isNan, toBits}
+use lib.Ieee.{Float, nan, inf, fin, binary64, add, lt, isNan, toBits}
 use lib.Ieee.Fits.{mul-fits, add-fits}
 use Rattle.number.specs.Arithmetic.{_⊕_, _⊗_, zeroOf, lowerOf, upperOf, minOf, maxOf}
 use Rattle.number.specs.Extremes.{Value}
@@ -20,7 +20,7 @@ use Rattle.matrix.specs.Vec.{axis, vec3}
 use Rattle.matrix.specs.Matrix.{entry, translation}
 use Rattle.matrix.specs.Transform.{column}
 use Rattle.matrix.specs.Range.{range, sumFrom, reach, reached}
-use Rattle.matrix.specs.Steps.{Numbers, numbersAlong, noNegativeZero, noNegativeZeros, settled, Settling}
+use Rattle.matrix.specs.Steps.{Numbers, numbersAlong, noNegativeZero, noNegativeZeros, signsSettled, Settling}
 use Rattle.matrix.proofs.Ordered.{are-numbers}
 use Rattle.matrix.proofs.Same.{same-vec3, same-range}
 
@@ -106,7 +106,7 @@ module _ (r : Range3d) (m : Mat4d) where
   rough = range (reached lowerOf r m) (reached upperOf r m)
 
   settled-moved : (told : Bool) → Settling told rough (translation m) → told ≡ true → rough ≡ range (reached minOf r m) (reached maxOf r m)
-  unfolding settled
+  unfolding signsSettled
   settled-moved told s h =
       let t = translation m in
       let all = both-hold (numbersAlong rough 0 && numbersAlong rough 1 && numbersAlong rough 2) (noNegativeZeros t) (sym (s .is) ∙ h) in

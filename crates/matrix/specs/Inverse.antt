@@ -22,36 +22,36 @@ abbrev pub turned : Bool → Float → Float
 turned false x = x
 turned true x = neg x
 
-abbrev pub plus : Bool → Float → Float → Float
-plus false x y = x ⊕ y
-plus true x y = x ⊖ y
+abbrev pub signedSum : Bool → Float → Float → Float
+signedSum false x y = x ⊕ y
+signedSum true x y = x ⊖ y
 
 -- Expanded down its first column, and added from left to right. Where s is true every sign is turned.
 abbrev pub expanded : Bool → (ℕ → ℕ → Float) → Float
 expanded s e =
     let t1 = turned s (e 0 0) ⊗ e 1 1 ⊗ e 2 2 in
-    let t2 = plus (not s) t1 (e 0 0 ⊗ e 1 2 ⊗ e 2 1) in
-    let t3 = plus (not s) t2 (e 1 0 ⊗ e 0 1 ⊗ e 2 2) in
-    let t4 = plus s t3 (e 1 0 ⊗ e 0 2 ⊗ e 2 1) in
-    let t5 = plus s t4 (e 2 0 ⊗ e 0 1 ⊗ e 1 2) in
-    plus (not s) t5 (e 2 0 ⊗ e 0 2 ⊗ e 1 1)
+    let t2 = signedSum (not s) t1 (e 0 0 ⊗ e 1 2 ⊗ e 2 1) in
+    let t3 = signedSum (not s) t2 (e 1 0 ⊗ e 0 1 ⊗ e 2 2) in
+    let t4 = signedSum s t3 (e 1 0 ⊗ e 0 2 ⊗ e 2 1) in
+    let t5 = signedSum s t4 (e 2 0 ⊗ e 0 1 ⊗ e 1 2) in
+    signedSum (not s) t5 (e 2 0 ⊗ e 0 2 ⊗ e 1 1)
 
 -- ---- cofactors
 
 -- the k-th of the numbers 0, 1, 2, .. without i
-abbrev pub without : ℕ → ℕ → ℕ
-without i k = cond (ltb k i) k (k + 1)
+abbrev pub skipping : ℕ → ℕ → ℕ
+skipping i k = cond (ltb k i) k (k + 1)
 
 -- The cofactor of row i and column j, where e r c is row r of the three other columns: row i is left out of them, and the sign is turned where i + j is odd.
 abbrev pub columnCofactor : ℕ → (ℕ → ℕ → Float) → ℕ → Float
-columnCofactor j e i = expanded (eqb ((i + j) % 2) 1) (λ r c. e (without i r) c)
+columnCofactor j e i = expanded (eqb ((i + j) % 2) 1) (λ r c. e (skipping i r) c)
 
 abbrev pub cofactor : Mat4d → ℕ → ℕ → Float
-cofactor m i j = columnCofactor j (λ r c. entry m r (without j c)) i
+cofactor m i j = columnCofactor j (λ r c. entry m r (skipping j c)) i
 
 -- three columns side by side
-abbrev pub beside : Vec4d → Vec4d → Vec4d → ℕ → ℕ → Float
-beside p q s r c = at (axis4 p r ∷ axis4 q r ∷ axis4 s r ∷ []) c
+abbrev pub threeColumns : Vec4d → Vec4d → Vec4d → ℕ → ℕ → Float
+threeColumns p q s r c = at (axis4 p r ∷ axis4 q r ∷ axis4 s r ∷ []) c
 
 -- of a whole column
 abbrev pub cofactors : Mat4d → ℕ → Vec4d

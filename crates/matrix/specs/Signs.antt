@@ -53,24 +53,24 @@ united (one r) = r
 united (both p q) = union (united p) (united q)
 
 -- those that were united, from left to right
-unfoldable pub listed : Grouping → List Range3d
-listed (one r) = r ∷ []
-listed (both p q) = listed p ++ listed q
+unfoldable pub unitedRanges : Grouping → List Range3d
+unitedRanges (one r) = r ∷ []
+unitedRanges (both p q) = unitedRanges p ++ unitedRanges q
 
 -- The same ranges, in any order and any grouping, have one union.
 abbrev pub UnionEveryOrder : Type 0
-UnionEveryOrder = (p q : Grouping) → List·Permᴰ (listed p) (listed q) → AllFilled (listed p) → united p ≡ united q
+UnionEveryOrder = (p q : Grouping) → List·Permᴰ (unitedRanges p) (unitedRanges q) → AllFilled (unitedRanges p) → united p ≡ united q
 
 -- from one number to another along each axis
-abbrev pub cube : Float → Float → Range3d
-cube low high = range (vec3 (λ i. low)) (vec3 (λ i. high))
+abbrev pub cubeRange : Float → Float → Range3d
+cubeRange low high = range (vec3 (λ i. low)) (vec3 (λ i. high))
 
 -- With a NaN it matters: (NaN to 0) and (5 to NaN), of which neither is empty, have the union (5 to 0), which is. So with (-3 to -1) it comes to (-3 to -1),
 -- where the first with the union of the other two comes to (-3 to 0).
 pub record NanGrouping : Type 0 where
-  pub empty : isEmpty (union (cube nan positiveZero) (cube (rounded 5 1) nan)) ≡ true
-  pub first-two : union (union (cube nan positiveZero) (cube (rounded 5 1) nan)) (cube (neg (rounded 3 1)) (neg (rounded 1 1))) ≡ cube (neg (rounded 3 1)) (neg (rounded 1 1))
-  pub last-two : union (cube nan positiveZero) (union (cube (rounded 5 1) nan) (cube (neg (rounded 3 1)) (neg (rounded 1 1)))) ≡ cube (neg (rounded 3 1)) positiveZero
+  pub empty : isEmpty (union (cubeRange nan positiveZero) (cubeRange (rounded 5 1) nan)) ≡ true
+  pub first-two : union (union (cubeRange nan positiveZero) (cubeRange (rounded 5 1) nan)) (cubeRange (neg (rounded 3 1)) (neg (rounded 1 1))) ≡ cubeRange (neg (rounded 3 1)) (neg (rounded 1 1))
+  pub last-two : union (cubeRange nan positiveZero) (union (cubeRange (rounded 5 1) nan) (cubeRange (neg (rounded 3 1)) (neg (rounded 1 1)))) ≡ cubeRange (neg (rounded 3 1)) positiveZero
 
 -- ---- a bound that is chosen of two zeros
 

@@ -45,13 +45,13 @@ abbrev pub noNegativeZeros : Vec3d → Bool
 noNegativeZeros v = noNegativeZero (v .x) && noNegativeZero (v .y) && noNegativeZero (v .z)
 
 -- its numbers are values, as every f64 is
-abbrev pub Values : Vec3d → Type 0
-Values v = Value (v .x) × Value (v .y) × Value (v .z)
+abbrev pub VecValues : Vec3d → Type 0
+VecValues v = Value (v .x) × Value (v .y) × Value (v .z)
 
-unfoldable pub settled : Range3d → Vec3d → Bool
-settled r t = (numbersAlong r 0 && numbersAlong r 1 && numbersAlong r 2) && noNegativeZeros t
+unfoldable pub signsSettled : Range3d → Vec3d → Bool
+signsSettled r t = (numbersAlong r 0 && numbersAlong r 1 && numbersAlong r 2) && noNegativeZeros t
 
 -- what the test tells
 pub record Settling (told : Bool) (r : Range3d) (t : Vec3d) : Type 0 where
-  pub is : told ≡ settled r t
-  pub values : told ≡ true → Values t
+  pub is : told ≡ signsSettled r t
+  pub values : told ≡ true → VecValues t

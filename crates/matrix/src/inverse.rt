@@ -2,7 +2,7 @@
 ghost use mathlib.Core.Path.{_≡_};
 ghost use Rattle.matrix.specs.Vec.{vec4, dot4};
 ghost use Rattle.matrix.specs.Matrix.{entry};
-ghost use Rattle.matrix.specs.Inverse.{beside, columnCofactor, cofactors, adjugate, scaled, over, inverseAbove, hasInverse, inverse};
+ghost use Rattle.matrix.specs.Inverse.{threeColumns, columnCofactor, cofactors, adjugate, scaled, over, inverseAbove, hasInverse, inverse};
 use crate::matrix::Mat4d;
 use crate::vec::Vec4d;
 use number::order::abs;
@@ -18,7 +18,7 @@ pub enum Inverted {
 
 // The cofactors of a column with an even number, from the other three: row by row, the signs beginning with plus.
 fn cofactors(p: Vec4d, q: Vec4d, s: Vec4d) -> Vec4d
-    ensures { λ r. ⌜ r ≡ vec4 (columnCofactor 0 (beside p q s)) ⌝ }
+    ensures { λ r. ⌜ r ≡ vec4 (columnCofactor 0 (threeColumns p q s)) ⌝ }
 {
     Vec4d {
         x: p.y * q.z * s.w - p.y * s.z * q.w - p.z * q.y * s.w + p.z * s.y * q.w + p.w * q.y * s.z
@@ -34,7 +34,7 @@ fn cofactors(p: Vec4d, q: Vec4d, s: Vec4d) -> Vec4d
 
 // The same of a column with an odd number: the signs begin with minus.
 fn turned_cofactors(p: Vec4d, q: Vec4d, s: Vec4d) -> Vec4d
-    ensures { λ r. ⌜ r ≡ vec4 (columnCofactor 1 (beside p q s)) ⌝ }
+    ensures { λ r. ⌜ r ≡ vec4 (columnCofactor 1 (threeColumns p q s)) ⌝ }
 {
     Vec4d {
         x: -p.y * q.z * s.w + p.y * s.z * q.w + p.z * q.y * s.w - p.z * s.y * q.w - p.w * q.y * s.z

@@ -10,6 +10,7 @@ ghost use Rattle.number.specs.Slice.{stored};
 use crate::matrix::Mat4d;
 use crate::vec::Vec3d;
 use crate::vec::Vec4d;
+use number::limits::CORNERS_LENGTH;
 use number::order;
 use number::slice;
 use number::slice::at;
@@ -403,7 +404,7 @@ impl Range3d {
     pub fn store_corners(s: &[f64], out: &mut [f64])
         ensures { λ _. ⌜ now (out .exit) ≡ stored (corners (rangeOf (now (s .entry))) 8) (now (out .entry)) ⌝ }
     {
-        if out.len() != 24 {
+        if out.len() != CORNERS_LENGTH {
             return;
         }
         let z = at(s, 2);

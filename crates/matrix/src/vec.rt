@@ -1,7 +1,7 @@
 // Row vectors of three numbers, and of four where a point is homogeneous.
 ghost use mathlib.Core.Path.{_≡_};
 ghost use Rattle.matrix.specs.Vec.{sum, difference, multiple, multiple4, dot, cross, lengthOf, unit, normalized, least, greatest, vec3, vec4, vec3Of, vec4Of, coordinates, coordinates4};
-ghost use Rattle.matrix.specs.Steps.{Numbers, NumbersAlong, noNegativeZeros, Values};
+ghost use Rattle.matrix.specs.Steps.{Numbers, NumbersAlong, noNegativeZeros, VecValues};
 ghost use Rattle.number.specs.Arithmetic.{minOf, maxOf};
 ghost use Prim.Native.Nat.{_+_};
 ghost use Rattle.number.specs.Slice.{at, stored};
@@ -137,7 +137,7 @@ impl Vec3d {
 
     // Whether none of its numbers is -0.
     pub(crate) fn has_no_negative_zero(self) -> bool
-        ensures { λ r. ⌜ (r ≡ noNegativeZeros self) × Values self ⌝ }
+        ensures { λ r. ⌜ (r ≡ noNegativeZeros self) × VecValues self ⌝ }
     {
         (to_bits(self.x) != 0x8000_0000_0000_0000)
             & (to_bits(self.y) != 0x8000_0000_0000_0000)

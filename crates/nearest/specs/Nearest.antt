@@ -1,15 +1,16 @@
 -- The nearest block, of paper 02: "A grower reporting hail gives a point, and the desk wants the nearest block." Several ranges stand in one slice, and a
 -- place counts them from 0. Distances are squared, as `distance_squared` gives them: a NaN coordinate of the point is on neither side of a range and adds nothing.
 -- Definitions only.
-use Prim.Native.Nat.{ℕ, _+_, _*_, _/_, _%_}
+use Prim.Native.Nat.{ℕ, _+_, _*_}
 use mathlib.Core.Bool.{Bool, not, _&&_}
 use mathlib.Core.List.{List}
-use lib.Dec.{eqb, leb, ltb}
+use lib.Dec.{leb}
 use lib.ListN.{length}
 use lib.Ieee.{Float, lt, le, isNan}
 use Rattle.number.specs.Every.{everyBelow}
 use Rattle.number.specs.Limits.{rangeLength}
 use Rattle.number.specs.Slice.{at}
+use Rattle.number.specs.Records.{recordCount, areRecords}
 use Rattle.matrix.specs.Vec.{vec3}
 use Rattle.matrix.specs.Range.{range, isEmpty, distanceSquared}
 use Rattle.matrix.specs.declared.vec.Vec3d.{Vec3d}
@@ -23,11 +24,11 @@ abbrev pub mostRanges : ℕ
 mostRanges = 1024
 
 abbrev pub rangeCount : List Float → ℕ
-rangeCount s = length s / rangeLength
+rangeCount s = recordCount rangeLength s
 
 -- "From 1 to 1,024 ranges"
 abbrev pub areRanges : List Float → Bool
-areRanges s = ltb 0 (length s) && leb (length s) (mostRanges * rangeLength) && eqb (length s % rangeLength) 0
+areRanges s = areRecords rangeLength s && leb (length s) (mostRanges * rangeLength)
 
 abbrev pub rangeAt : List Float → ℕ → Range3d
 rangeAt s i =

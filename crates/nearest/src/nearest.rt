@@ -27,10 +27,10 @@ pub(crate) fn are_ranges(ranges: &[f64]) -> bool
     if ranges.len() == 0 {
         return false;
     }
-    if MOST_RANGES * RANGE_LENGTH < ranges.len() {
+    if ranges.len() % RANGE_LENGTH != 0 {
         return false;
     }
-    ranges.len() % RANGE_LENGTH == 0
+    ranges.len() <= MOST_RANGES * RANGE_LENGTH
 }
 
 // The range at a place.

@@ -115,13 +115,6 @@ in-turn : (p q c p' q' c' p'' q'' c'' : ℕ) → 0 < c' → p * c' + q' * c ≤ 
 in-turn p q c p' q' c' p'' q'' c'' C h k =
     le-of-mul-le-mul-right (omega (arith, mul-le-mul-right c'' h, mul-le-mul-right c k)) C
 
--- with both signs turned two differences are in the other order
-turned : (s t : Bool) (X dx Y dy : ℕ) → InOrder s X dx t Y dy → InOrder (not t) Y dy (not s) X dx
-turned false false X dx Y dy h = omega arith
-turned false true X dx Y dy h = omega arith
-turned true false X dx Y dy h = omega arith
-turned true true X dx Y dy h = omega arith
-
 -- ---- the order of floats
 
 -- x ≤ y and y ≤ z give x ≤ z
@@ -197,23 +190,6 @@ eq-le x y h = second (lt x y) (eq x y) h
     second : (a b : Bool) → T b → T (a || b)
     second true b t = tt
     second false b t = t
-
--- with both signs turned numbers are in the other order
-pub neg-le : (x y : Float) → T (le x y) → T (le (neg y) (neg x))
-unfolding le lt eq neg
-neg-le nan y h = absurd h
-neg-le (inf s) nan h = absurd h
-neg-le (inf true) (inf true) h = tt
-neg-le (inf true) (inf false) h = tt
-neg-le (inf false) (inf true) h = absurd h
-neg-le (inf false) (inf false) h = tt
-neg-le (inf true) (fin t n d) h = tt
-neg-le (inf false) (fin t n d) h = absurd h
-neg-le (fin s m e) nan h = absurd h
-neg-le (fin s m e) (inf true) h = absurd h
-neg-le (fin s m e) (inf false) h = tt
-neg-le (fin s m e) (fin t n d) h =
-    order-test (not t) (not s) (n * up d) (down d) (m * up e) (down e) (turned s t (m * up e) (down e) (n * up d) (down d) (test-order s t (m * up e) (down e) (n * up d) (down d) h))
 
 -- and a comparison is turned round
 below-turned : (s t : Bool) (k l : ℕ) → below (not s) k (not t) l ≡ below t l s k

@@ -2,6 +2,9 @@
 pub mod Nan
 pub mod Tests
 pub mod Every
+pub mod Tabulate
+pub mod Records
+pub mod ListLoops
 pub mod PlacesBelow
 pub mod Magnitude
 pub mod Extremes
@@ -35,8 +38,6 @@ pub mod Ways
 pub mod Comparisons
 pub mod SidesOfZero
 pub mod RuleOfSigns
-pub mod RoundedOrder
-pub mod Monotone
-pub mod RootBracket
-pub mod SumFromZero
 pub mod RoundingError
+pub mod CountedErrors
+pub mod RootBracket

@@ -1,4 +1,4 @@
--- The search for a root, bit by bit: `After` of `specs/Search.antt` holds after the first bit, one bit more keeps it, and after the last bit the whole root is
+-- The search for a root, bit by bit: `AfterBit` of `specs/Search.antt` holds after the first bit, one bit more keeps it, and after the last bit the whole root is
 -- found. The idea: (root + h)² = root² + (2 * root + h) * h, so that what a bit h adds to the square is what the remainder loses. Assumes nothing.
 use mathlib.Core.Path.{_≡_, refl, sym, ap, _∙_, subst}
 use mathlib.Core.Bool.{Bool, true, false, not, cond}
@@ -8,7 +8,7 @@ use native.Mathlib.Omega.{arith}
 use lib.Dec.{T, leb, leb→le, nleb→lt, ltb, nltb→le}
 use lib.Pow.{pow-pos}
 use Rattle.number.specs.Root.{rootOf, restOf}
-use Rattle.number.specs.Search.{Searched, After, Found, usedOf, keptOf, passedOf, triedOf}
+use Rattle.number.specs.Search.{RootSoFar, AfterBit, RootFound, usedOf, keptOf, skippedOf, triedOf}
 use Rattle.number.specs.declared.root.PartialRoot.{PartialRoot}
 use Rattle.number.specs.declared.root.WholeRoot.{WholeRoot}
 use Rattle.number.proofs.RootRounding.{rest-none, rest-some}
@@ -23,7 +23,7 @@ used-whole : (n b q : ℕ) → 0 < b → n ≡ q * b → usedOf n b ≡ n
 used-whole n b q B e = ap (λ (i : ℕ). usedOf i b) e ∙ all-used q b B ∙ sym e
 
 searched : (n b root remainder digits q : ℕ) → 0 < b → n ≡ q * b → root ≡ digits * b → root * root + remainder * b ≡ n → remainder < 2 * root + b
-    → Searched n b root remainder
+    → RootSoFar n b root remainder
 searched n b root remainder digits q B u r e l = record {
   digits = digits;
   root-is = r;
@@ -32,12 +32,12 @@ searched n b root remainder digits q B u r e l = record {
   most = l;
 }
 
-pub whole : {n b root remainder : ℕ} → Searched n b root remainder → root * root + remainder * b ≡ n
+pub whole : {n b root remainder : ℕ} → RootSoFar n b root remainder → root * root + remainder * b ≡ n
 whole s = s .used ∙ s .unused
 
 -- ---- the first bit
 pub first : (number : ℕ) → 2 ^ 53 ≤ number → number < 2 ^ 55
-    → After (number * 2 ^ 53) (2 ^ 53) (record { trial = 5 * 2 ^ 53; left = 4 * (number - 2 ^ 53) })
+    → AfterBit (number * 2 ^ 53) (2 ^ 53) (record { trial = 5 * 2 ^ 53; left = 4 * (number - 2 ^ 53) })
 first number l g = record {
   power = 53;
   bit = refl;
@@ -49,7 +49,7 @@ first number l g = record {
 }
 
 -- ---- one bit more, h, after the bit b
-module _ (n b h root remainder : ℕ) (B : b ≡ 2 * h) (H : 0 < h) (s : Searched n b root remainder) where
+module _ (n b h root remainder : ℕ) (B : b ≡ 2 * h) (H : 0 < h) (s : RootSoFar n b root remainder) where
   halves : root ≡ s .digits * (2 * h)
   halves = s .root-is ∙ ap (λ (i : ℕ). s .digits * i) B
 
@@ -60,7 +60,7 @@ module _ (n b h root remainder : ℕ) (B : b ≡ 2 * h) (H : 0 < h) (s : Searche
   square = ap (λ (i : ℕ). root * root + remainder * i) (sym B) ∙ whole s
 
   -- the bit is kept: (root + h)² = root² + (2 * root + h) * h
-  kept : 2 * root + h ≤ 2 * remainder → Searched n h (root + h) (2 * remainder - (2 * root + h))
+  kept : 2 * root + h ≤ 2 * remainder → RootSoFar n h (root + h) (2 * remainder - (2 * root + h))
   kept l = searched n h (root + h) (2 * remainder - (2 * root + h)) (2 * s .digits + 1) (n / b * 2) H units (let e = halves in omega arith)
       (squares (2 * remainder - (2 * root + h)) (omega arith)) (let m = s .most in omega arith)
     where
@@ -68,14 +68,14 @@ module _ (n b h root remainder : ℕ) (B : b ≡ 2 * h) (H : 0 < h) (s : Searche
       squares d f = let e = ap (λ (i : ℕ). i * h) f in let w = square in omega arith
 
   -- it is not
-  passed : 2 * remainder < 2 * root + h → Searched n h root (2 * remainder)
+  passed : 2 * remainder < 2 * root + h → RootSoFar n h root (2 * remainder)
   passed l = searched n h root (2 * remainder) (2 * s .digits) (n / b * 2) H units (let e = halves in omega arith) (let w = square in omega arith) (omega arith)
 
 -- what holds after the bit b holds after the next, as the code holds it
-pub next : (n b : ℕ) (s : PartialRoot) → 1 < b → After n b s → After n (b / 2) (triedOf s b)
+pub next : (n b : ℕ) (s : PartialRoot) → 1 < b → AfterBit n b s → AfterBit n (b / 2) (triedOf s b)
 next n b s h a = go (a .power) (a .bit)
   where
-    go : (k : ℕ) → b ≡ 2 ^ k → After n (b / 2) (triedOf s b)
+    go : (k : ℕ) → b ≡ 2 ^ k → AfterBit n (b / 2) (triedOf s b)
     go zero f = absurd (omega arith)
     go (suc k) f = by (leb (s .trial) (s .left)) (leb→le (s .trial) (s .left)) (nleb→lt (s .trial) (s .left))
       where
@@ -85,7 +85,7 @@ next n b s h a = go (a .power) (a .bit)
         half : b / 2 ≡ 2 ^ k
         half = omega arith
 
-        by : (z : Bool) → (T z → s .trial ≤ s .left) → (T (not z) → s .left < s .trial) → After n (b / 2) (cond z (keptOf s b) (passedOf s b))
+        by : (z : Bool) → (T z → s .trial ≤ s .left) → (T (not z) → s .left < s .trial) → AfterBit n (b / 2) (cond z (keptOf s b) (skippedOf s b))
         by true l g = record {
           power = k;
           bit = half;
@@ -106,12 +106,12 @@ next n b s h a = go (a .power) (a .bit)
         }
 
 -- the root so far is below k where n is below k * k
-pub root-below : (n b root remainder k : ℕ) → Searched n b root remainder → n < k * k → root < k
+pub root-below : (n b root remainder k : ℕ) → RootSoFar n b root remainder → n < k * k → root < k
 root-below n b root remainder k s l =
     square-lt root k (lt-of-le-of-lt (le-trans (le-add-right (root * root) (remainder * b)) (le-of-eq (whole s))) l)
 
 -- ---- the last bit, or nothing left
-pub exact : (n b root remainder q : ℕ) → Searched n b root remainder → q ≡ root → remainder ≡ 0 → Found n (record { root = q; rest = 0 })
+pub exact : (n b root remainder q : ℕ) → RootSoFar n b root remainder → q ≡ root → remainder ≡ 0 → RootFound n (record { root = q; rest = 0 })
 exact n b root remainder q s e z = record { remainder = 0; searched = searched n 1 q 0 q n (omega arith) (sym (mul-one n)) (sym (mul-one q)) square (omega arith); rest = refl }
   where
     square : q * q + 0 * 1 ≡ n
@@ -127,15 +127,15 @@ some remainder z = go (ltb 0 remainder) (nltb→le 0 remainder)
     go true l = refl
     go false l = absurd (z (let m = l tt in omega arith))
 
-pub inexact : (n b root remainder q : ℕ) → Searched n b root remainder → q ≡ root → b ≡ 1 → (remainder ≡ 0 → ⊥) → Found n (record { root = q; rest = 1 })
+pub inexact : (n b root remainder q : ℕ) → RootSoFar n b root remainder → q ≡ root → b ≡ 1 → (remainder ≡ 0 → ⊥) → RootFound n (record { root = q; rest = 1 })
 inexact n b root remainder q s e f z = record {
   remainder = remainder;
-  searched = subst (λ (i : ℕ). Searched n i q remainder) f (subst (λ (i : ℕ). Searched n b i remainder) (sym e) s);
+  searched = subst (λ (i : ℕ). RootSoFar n i q remainder) f (subst (λ (i : ℕ). RootSoFar n b i remainder) (sym e) s);
   rest = some remainder z;
 }
 
 -- ---- what is found is the whole root
-module _ (n : ℕ) (r : WholeRoot) (f : Found n r) where
+module _ (n : ℕ) (r : WholeRoot) (f : RootFound n r) where
   least : r .root * r .root + f .remainder ≡ n
   least = let w = whole (f .searched) in omega arith
 

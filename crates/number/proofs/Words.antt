@@ -9,7 +9,7 @@ use borrow.Author.Tests.{le-leb, lt-leb}
 use lib.ListN.{length, set, getD, take, drop}
 use lib.Seq.{drop-cons, drop-length, set-at}
 use lib.Ieee.{Float, nan}
-use Rattle.number.specs.Bytes.{littleEndian, wordAt, numberAt, numbersAt, loaded}
+use Rattle.number.specs.Bytes.{littleEndian, wordAt, f64At, numbersAt, loaded}
 
 -- ---- words
 
@@ -54,17 +54,17 @@ unfolding numbersAt
 as-many b i zero = refl
 as-many b i (suc n) = ap suc (as-many b (i + 8) n)
 
-last-number : (b : List ℕ) (i n : ℕ) → numbersAt b i (suc n) ≡ numbersAt b i n ++ (numberAt b (i + 8 * n) ∷ [])
+last-number : (b : List ℕ) (i n : ℕ) → numbersAt b i (suc n) ≡ numbersAt b i n ++ (f64At b (i + 8 * n) ∷ [])
 unfolding numbersAt
-last-number b i zero = ap (λ (k : ℕ). numberAt b k ∷ []) (omega arith)
+last-number b i zero = ap (λ (k : ℕ). f64At b k ∷ []) (omega arith)
 last-number b i (suc n) =
     let e : i + 8 + 8 * n ≡ i + 8 * suc n = omega arith in
-    ap (λ (l : List Float). numberAt b i ∷ l) (last-number b (i + 8) n ∙ ap (λ (k : ℕ). numbersAt b (i + 8) n ++ (numberAt b k ∷ [])) e)
+    ap (λ (l : List Float). f64At b i ∷ l) (last-number b (i + 8) n ∙ ap (λ (k : ℕ). numbersAt b (i + 8) n ++ (f64At b k ∷ [])) e)
 
-pub number-at : (b : List ℕ) (i n k : ℕ) → k < n → getD (numbersAt b i n) k nan ≡ numberAt b (i + 8 * k)
+pub number-at : (b : List ℕ) (i n k : ℕ) → k < n → getD (numbersAt b i n) k nan ≡ f64At b (i + 8 * k)
 unfolding numbersAt
-number-at b i (suc n) zero h = ap (numberAt b) (omega arith)
-number-at b i (suc n) (suc k) h = number-at b (i + 8) n k (omega arith) ∙ ap (numberAt b) (omega arith)
+number-at b i (suc n) zero h = ap (f64At b) (omega arith)
+number-at b i (suc n) (suc k) h = number-at b (i + 8) n k (omega arith) ∙ ap (f64At b) (omega arith)
 number-at b i zero k h = absurd (omega arith)
 
 module _ (b : List ℕ) (i : ℕ) (out : List Float) where
@@ -76,12 +76,12 @@ module _ (b : List ℕ) (i : ℕ) (out : List Float) where
   unfolding numbersAt
   none-filled = refl
 
-  pub one-more : (n : ℕ) (l : List Float) (x : Float) → n < length out → l ≡ filled n → x ≡ numberAt b (i + 8 * n) → set l n x ≡ filled (n + 1)
+  pub one-more : (n : ℕ) (l : List Float) (x : Float) → n < length out → l ≡ filled n → x ≡ f64At b (i + 8 * n) → set l n x ≡ filled (n + 1)
   one-more n l x h e p =
       ap (λ (t : List Float). set t n x) (e ∙ ap (λ (t : List Float). numbersAt b i n ++ t) (drop-cons out n nan h))
       ∙ set-at (numbersAt b i n) (getD out n nan) (drop (suc n) out) x n (as-many b i n)
       ∙ ap (λ (y : Float). numbersAt b i n ++ y ∷ drop (suc n) out) p
-      ∙ sym (append-assoc (numbersAt b i n) (numberAt b (i + 8 * n) ∷ []) (drop (suc n) out))
+      ∙ sym (append-assoc (numbersAt b i n) (f64At b (i + 8 * n) ∷ []) (drop (suc n) out))
       ∙ ap (λ (t : List Float). t ++ drop (suc n) out) (sym (last-number b i n))
       ∙ ap filled (sym (add-one n))
 

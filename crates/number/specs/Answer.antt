@@ -70,6 +70,11 @@ pub data Outcome (A : Type 0) : Type 0 where
   refused : ℕ → Outcome A
   result : A → Outcome A
 
+-- what comes of a result; a refusal stays
+abbrev pub andThen : {A B : Type 0} → Outcome A → (A → Outcome B) → Outcome B
+andThen (refused k) f = refused k
+andThen (result x) f = f x
+
 abbrev pub scalarOf : Scalar → Outcome Float
 scalarOf (Value x) = result x
 scalarOf (NoValue r) = refused (numberOf r)

@@ -17,14 +17,14 @@ unfolding littleEndian
 wordAt n b i = cond (leb (i + n) (length b)) (littleEndian (take n (drop i b))) 0
 
 -- the number of binary64 whose pattern stands in 8 bytes from place i on: some NaN, where it is a NaN's
-abbrev pub numberAt : List ℕ → ℕ → Float
-numberAt b i = ofBits binary64 (wordAt 8 b i)
+abbrev pub f64At : List ℕ → ℕ → Float
+f64At b i = ofBits binary64 (wordAt 8 b i)
 
 -- n such numbers, one behind the other
 unfoldable pub numbersAt : List ℕ → ℕ → ℕ → List Float
 unfolding wordAt
 numbersAt b i zero = []
-numbersAt b i (suc n) = numberAt b i ∷ numbersAt b (i + 8) n
+numbersAt b i (suc n) = f64At b i ∷ numbersAt b (i + 8) n
 
 -- what a slice holds after numbers were put into it from bytes: as many as it has room for, from place i on, if the bytes hold them
 abbrev pub loaded : List ℕ → ℕ → List Float → List Float

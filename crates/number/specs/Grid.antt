@@ -54,8 +54,8 @@ abbrev pub coordinateOf : Coordinate → Outcome ℤ
 coordinateOf (On z) = result z
 coordinateOf Off = refused 7
 
-abbrev pub coordinates : List Float → List Coordinate
-coordinates p = map (λ x. placed (centimetres x)) p
+abbrev pub gridCoordinates : List Float → List Coordinate
+gridCoordinates p = map (λ x. placed (centimetres x)) p
 
 -- a whole number in front of others, as a result: its zero is positive
 abbrev pub inFrontOf : Outcome ℤ → Outcome (List Float) → Outcome (List Float)
@@ -70,4 +70,4 @@ gridNumbers (c ∷ cs) = inFrontOf (coordinateOf c) (gridNumbers cs)
 
 -- "1, 2, then 7 if a product is not finite or its rounded size exceeds 65,536"
 unfoldable pub gridCall : List Float → List Float → Reply Float
-gridCall p out = attempting (has pointLength p) pointLength (gridNumbers (coordinates p)) out
+gridCall p out = attempting (has pointLength p) pointLength (gridNumbers (gridCoordinates p)) out

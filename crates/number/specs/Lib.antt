@@ -5,8 +5,10 @@ pub mod Extremes
 pub mod Root
 pub mod Search
 pub mod Every
+pub mod Tabulate
 pub mod Answer
 pub mod Slice
+pub mod Records
 pub mod Slots
 pub mod Places
 pub mod Bytes

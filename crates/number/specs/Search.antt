@@ -14,7 +14,7 @@ abbrev pub usedOf : ℕ → ℕ → ℕ
 usedOf n b = n / b * b
 
 -- The search for the root of n after the bit b: the root so far and the remainder, which counts units of b, the place of the last digit used.
-pub record Searched (n b root remainder : ℕ) : Type 0 where
+pub record RootSoFar (n b root remainder : ℕ) : Type 0 where
   pub digits : ℕ
   pub root-is : root ≡ digits * b
   -- the remainder is "the number searched, as far as used, less the square of the root so far"
@@ -25,12 +25,12 @@ pub record Searched (n b root remainder : ℕ) : Type 0 where
   pub most : remainder < 2 * root + b
 
 -- What the code holds after the bit b: four times the remainder, and what that has to reach for the next bit, b / 2, to fit.
-pub record After (n b : ℕ) (s : PartialRoot) : Type 0 where
+pub record AfterBit (n b : ℕ) (s : PartialRoot) : Type 0 where
   pub power : ℕ
   pub bit : b ≡ 2 ^ power
   pub root : ℕ
   pub remainder : ℕ
-  pub searched : Searched n b root remainder
+  pub searched : RootSoFar n b root remainder
   pub trial : s .trial ≡ 4 * root + b
   pub left : s .left ≡ 4 * remainder
 
@@ -40,19 +40,19 @@ abbrev pub keptOf : PartialRoot → ℕ → PartialRoot
 keptOf s b = record { trial = s .trial - b / 2 + 2 * b; left = 2 * (s .left - s .trial) }
 
 -- and where it does not, 4 * r + b / 2.
-abbrev pub passedOf : PartialRoot → ℕ → PartialRoot
-passedOf s b = record { trial = s .trial - b / 2; left = 2 * s .left }
+abbrev pub skippedOf : PartialRoot → ℕ → PartialRoot
+skippedOf s b = record { trial = s .trial - b / 2; left = 2 * s .left }
 
 abbrev pub triedOf : PartialRoot → ℕ → PartialRoot
-triedOf s b = cond (leb (s .trial) (s .left)) (keptOf s b) (passedOf s b)
+triedOf s b = cond (leb (s .trial) (s .left)) (keptOf s b) (skippedOf s b)
 
 -- The step from s to r by the bit after b. Whatever number is searched, what holds after a bit holds after the next.
 pub record Tried (s : PartialRoot) (b : ℕ) (r : PartialRoot) : Type 0 where
   pub is : r ≡ triedOf s b
-  pub next : (n : ℕ) → 1 < b → After n b s → After n (b / 2) r
+  pub next : (n : ℕ) → 1 < b → AfterBit n b s → AfterBit n (b / 2) r
 
 -- What is found after the last bit, 1. The rest is 1 where there is a remainder.
-pub record Found (n : ℕ) (r : WholeRoot) : Type 0 where
+pub record RootFound (n : ℕ) (r : WholeRoot) : Type 0 where
   pub remainder : ℕ
-  pub searched : Searched n 1 (r .root) remainder
+  pub searched : RootSoFar n 1 (r .root) remainder
   pub rest : r .rest ≡ cond (ltb 0 remainder) 1 0

@@ -2,7 +2,7 @@
 ghost use mathlib.Core.Path.{_≡_};
 ghost use Prim.Native.Nat.{_+_, _<_, _≤_, _^_};
 ghost use lib.ListN.{length, take, drop};
-ghost use Rattle.number.specs.Bytes.{littleEndian, wordAt, numberAt, loaded};
+ghost use Rattle.number.specs.Bytes.{littleEndian, wordAt, f64At, loaded};
 use crate::format::from_bits;
 
 fn wide(b: u8) -> u64
@@ -57,7 +57,7 @@ pub fn word_64(bytes: &[u8], at: usize) -> u64
 
 // The number whose pattern they are.
 pub fn number_at(bytes: &[u8], at: usize) -> f64
-    ensures { λ r. ⌜ r ≡ numberAt (now (bytes .entry)) at ⌝ }
+    ensures { λ r. ⌜ r ≡ f64At (now (bytes .entry)) at ⌝ }
 {
     from_bits(word_64(bytes, at))
 }

@@ -4,7 +4,7 @@ ghost use mathlib.Core.Bool.{cond};
 ghost use Prim.Native.Nat.{_+_, _*_, _<_, _^_, _≤_};
 ghost use lib.Ieee.{binary64, ofBits};
 ghost use Rattle.number.specs.Root.{roundRoot, sqrtOf};
-ghost use Rattle.number.specs.Search.{After, Found, Tried};
+ghost use Rattle.number.specs.Search.{AfterBit, RootFound, Tried};
 ghost use Rattle.number.specs.Steps.Magnitude.{unitsOf};
 ghost use Rattle.number.specs.Steps.Root.{rootDigits};
 use crate::nearest;
@@ -30,7 +30,7 @@ impl PartialRoot {
     // The first bit of the root of number * 2 ^ 53 is 2 ^ 53.
     fn first(number: u64) -> PartialRoot
         requires { ⌜ (2 ^ 53 ≤ number) × (number < 2 ^ 55) ⌝ }
-        ensures { λ r. ⌜ After (number * 2 ^ 53) (2 ^ 53) r ⌝ }
+        ensures { λ r. ⌜ AfterBit (number * 2 ^ 53) (2 ^ 53) r ⌝ }
     {
         PartialRoot {
             trial: 0x00a0_0000_0000_0000,
@@ -66,7 +66,7 @@ struct WholeRoot {
 // The root of number * 2 ^ 53, the first bit and then a bit at a time. Where nothing is left the bits to come are zeros.
 fn search(number: u64) -> WholeRoot
     requires { ⌜ (2 ^ 53 ≤ number) × (number < 2 ^ 55) ⌝ }
-    ensures { λ r. ⌜ Found (number * 2 ^ 53) r ⌝ }
+    ensures { λ r. ⌜ RootFound (number * 2 ^ 53) r ⌝ }
 {
     let first = PartialRoot::first(number);
     let mut bit: u64 = 0x0020_0000_0000_0000;

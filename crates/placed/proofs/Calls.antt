@@ -26,7 +26,7 @@ use Rattle.verdict.specs.FrustumCalls.{intersectsBoxCall}
 use Rattle.placed.specs.Numbers.{truncated, isWholeNumber, areWholeNumbers, wholeNumbers}
 use Rattle.placed.specs.Placement.{WholeBox, movedℤ, smaller, larger, placedLeast, placedGreatest, quarterTurned, isGridBox}
 use Rattle.placed.specs.BBoxCall.{countIn, viewNumbers, planesIn, boxNumbers, boxIn, onGrid, Decides, ByGrid, After, ExactBoxCall, OneAnswerAllowed}
-use Rattle.placed.specs.Steps.{placedBounds, BoxNumbers, Counted}
+use Rattle.placed.specs.Steps.{placedBounds, BoxNumbers, HoldsPlanes}
 use Rattle.placed.proofs.Truncation.{whole-small}
 use Rattle.placed.proofs.Loading.{each}
 
@@ -157,7 +157,7 @@ module _ (v b : List Float) where
       let B = boxIn b in
       off (sym is ∙ placed-fails a (areWholeNumbers (boxNumbers b)) (quarterTurned B) (pointWithin (placedLeast B)) (pointWithin (placedGreatest B)) e)
 
-  module _ (C : Counted v (countIn v)) (w : areWholeNumbers (viewNumbers v) ≡ true) (q : (areWholeNumbers (boxNumbers b) && quarterTurned (boxIn b)) ≡ true) where
+  module _ (C : HoldsPlanes v (countIn v)) (w : areWholeNumbers (viewNumbers v) ≡ true) (q : (areWholeNumbers (boxNumbers b) && quarterTurned (boxIn b)) ≡ true) where
     abbrev grid : Bool
     grid = every planeWithin (planesIn v) && boxWithin bounds
 
@@ -203,10 +203,10 @@ module _ (v b : List Float) where
   then-by-grid answer filed e h = subst (After v b answer) (sym e) h
 
 -- ---- room for a view, in front of a slice of zeros
-pub room-for : (k n m : ℕ) → k ≡ viewLength n → n ≡ m → n ≤ mostPlanes → length (take (k - 0) (replicate 57 (pos 0))) ≡ viewLength m
+pub room-for : (k n m : ℕ) → k ≡ viewLength n → n ≡ m → n ≤ mostPlanes → length (take (k - 0) (replicate (viewLength mostPlanes) (pos 0))) ≡ viewLength m
 room-for k n m e f g =
-    let l : length (replicate 57 (pos 0)) ≡ 57 = refl in
-    length-take-le (k - 0) (replicate 57 (pos 0)) (omega (arith, l)) ∙ omega arith
+    let l : length (replicate (viewLength mostPlanes) (pos 0)) ≡ viewLength mostPlanes = refl in
+    length-take-le (k - 0) (replicate (viewLength mostPlanes) (pos 0)) (omega (arith, l)) ∙ omega arith
 
 -- ---- no two answers are allowed
 

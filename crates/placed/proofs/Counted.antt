@@ -10,17 +10,17 @@ use lib.ListN.{length}
 use lib.IntN.{pos}
 use lib.Ieee.{Float, nan, inf, fin, le, eq, toUnsigned, toSigned}
 use Rattle.number.specs.Limits.{fewestPlanes, mostPlanes}
-use Rattle.number.specs.Answer.{Outcome, refused, result, unless, has}
+use Rattle.number.specs.Answer.{Outcome, refused, result, andThen, unless, has}
 use Rattle.number.specs.Slice.{at}
 use Rattle.number.proofs.Tests.{both-hold}
 use Rattle.matrix.specs.Constants.{rounded}
-use Rattle.verdict.specs.View.{volumeLength, wholePart, isCount, planeCountOf, andThen, planesHeld}
+use Rattle.verdict.specs.View.{volumeLength, wholePart, isCount, planeCountOf, planesHeld}
 use Rattle.verdict.proofs.Between.{Between, whole-part}
 use Rattle.verdict.proofs.PlaneCount.{bounded}
 use Rattle.verdict.proofs.PlanesHeld.{held}
 use Rattle.placed.specs.Numbers.{truncated}
 use Rattle.placed.specs.BBoxCall.{countIn}
-use Rattle.placed.specs.Steps.{Counted}
+use Rattle.placed.specs.Steps.{HoldsPlanes}
 
 -- the number that a volume holds planes by is its count
 count-held : (s : List Float) (n : ℕ) → result n ≡ planesHeld s → planeCountOf (at s 0) ≡ result n
@@ -63,11 +63,11 @@ is-count x n e = go (isCount x) refl e
         let k = both-hold low high (h .0) in
         record { says = i; whole = both-ways x (bounded x (k .0) (k .1)) ∙ ap pos (sym i) }
 
-pub counted : (v : List Float) (n : ℕ) → result n ≡ planesHeld v → Counted v n
+pub counted : (v : List Float) (n : ℕ) → result n ≡ planesHeld v → HoldsPlanes v n
 counted v n e =
     let c = is-count (at v 0) n (count-held v n e) in
     let h = held v n e in
     record { says = c .says; whole = c .whole; fewest = h .fewest; most = h .most; numbers = h .numbers }
 
-pub counted-in : (v : List Float) (n : ℕ) → Counted v n → Counted v (countIn v)
-counted-in v n c = subst (Counted v) (c .says) c
+pub counted-in : (v : List Float) (n : ℕ) → HoldsPlanes v n → HoldsPlanes v (countIn v)
+counted-in v n c = subst (HoldsPlanes v) (c .says) c

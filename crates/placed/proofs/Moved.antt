@@ -14,7 +14,7 @@ use Rattle.number.proofs.Tests.{both-hold}
 use Rattle.whole.specs.Plane.{dotℤ}
 use Rattle.whole.specs.SegmentCall.{numberAt, within}
 use Rattle.whole.proofs.Integer.{min-ind, max-ind}
-use Rattle.placed.specs.declared.placement.Vec3.{Vec3}
+use Rattle.placed.specs.declared.placement.Vec3i.{Vec3i}
 use Rattle.placed.specs.Placement.{WholeBox, boxOf, movedℤ, columnℤ, sizes, placedLeast, placedGreatest, sameNumber, gridAlong, quarterTurned}
 use Rattle.placed.specs.Steps.{vecOf, vec, Sized, cornerAt, columnAt, BoxNumbers, Placing}
 use Rattle.placed.proofs.Registers.{R, kept-as, moved-small}
@@ -36,12 +36,12 @@ module _ (s : List ℤ) (from j : ℕ) where
       +ℤ translation-is s j t
 
   -- from what its parts are read as
-  pub moved-read : (u v : Vec3) (w t : ℤ) → u ≡ cornerAt s from → v ≡ columnAt s j → w ≡ numberAt s (18 + j) → natAbs (numberAt s (18 + j)) ≤ distanceLimit
+  pub moved-read : (u v : Vec3i) (w t : ℤ) → u ≡ cornerAt s from → v ≡ columnAt s j → w ≡ numberAt s (18 + j) → natAbs (numberAt s (18 + j)) ≤ distanceLimit
       → t ≡ dotℤ (vecOf u) (vecOf v) +ℤ R w → t ≡ movedℤ (boxOf s .matrix) (λ k. numberAt s (from + k)) j
   moved-read u v w t e f g h m = m ∙ (λ i. dotℤ (vecOf (e i)) (vecOf (f i)) +ℤ kept-as w (numberAt s (18 + j)) g h i) ∙ moved-is
 
 -- ---- sizes of what is read
-pub sized-read : {b : ℕ} {u v : Vec3} → u ≡ v → Sized b v → Sized b u
+pub sized-read : {b : ℕ} {u v : Vec3i} → u ≡ v → Sized b v → Sized b u
 sized-read {b} e h = subst (Sized b) (sym e) h
 
 pub box-sized : {s : List ℤ} → BoxNumbers s → (from apart : ℕ) → from + 2 * apart < 22 → Sized distanceLimit (vec (λ k. numberAt s (from + k * apart)))

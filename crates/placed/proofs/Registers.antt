@@ -10,7 +10,7 @@ use mir.Val.{SFits, toZ, ofZ}
 use Rattle.number.specs.Limits.{gridLimit, distanceLimit}
 use Rattle.whole.specs.Plane.{dotℤ}
 use Rattle.whole.proofs.Registers.{Held, held-fits, read, itself, held-times, held-sum}
-use Rattle.placed.specs.declared.placement.Vec3.{Vec3}
+use Rattle.placed.specs.declared.placement.Vec3i.{Vec3i}
 use Rattle.placed.specs.Steps.{vecOf, Sized}
 
 -- a number, written and read again
@@ -32,7 +32,7 @@ pub kept-as : (r z : ℤ) → r ≡ z → natAbs z ≤ distanceLimit → R r ≡
 kept-as r z e h = ap R e ∙ kept z h
 
 -- ---- a point moved along an axis: by a column, and a translation
-module _ {u v : Vec3} (t : ℤ) (U : Sized gridLimit u) (W : Sized 1 v) (S : natAbs t ≤ gridLimit) where
+module _ {u v : Vec3i} (t : ℤ) (U : Sized gridLimit u) (W : Sized 1 v) (S : natAbs t ≤ gridLimit) where
   times : (x y : ℤ) → natAbs x ≤ gridLimit → natAbs y ≤ 1 → Held (R x *ℤ R y) (x *ℤ y) (gridLimit * 1)
   times x y h k = held-times (again (lit≤ tt) (itself x h)) (again (lit≤ tt) (itself y k))
 

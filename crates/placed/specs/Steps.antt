@@ -9,23 +9,23 @@ use Rattle.number.specs.Limits.{flagPlace, gridLimit, distanceLimit, fewestPlan
 use Rattle.number.specs.Slice.{at}
 use Rattle.verdict.specs.View.{volumeLength}
 use Rattle.whole.specs.SegmentCall.{numberAt}
-use Rattle.placed.specs.declared.placement.Vec3.{Vec3}
+use Rattle.placed.specs.declared.placement.Vec3i.{Vec3i}
 use Rattle.placed.specs.Numbers.{truncated}
 use Rattle.placed.specs.Placement.{WholeBox, placedLeast, placedGreatest}
 use Rattle.placed.specs.BBoxCall.{countIn}
 
 -- ---- values of the code
 
-abbrev pub vecOf : Vec3 → ℕ → ℤ
+abbrev pub vecOf : Vec3i → ℕ → ℤ
 vecOf v zero = v .x
 vecOf v (suc zero) = v .y
 vecOf v (suc (suc i)) = v .z
 
-abbrev pub vec : (ℕ → ℤ) → Vec3
+abbrev pub vec : (ℕ → ℤ) → Vec3i
 vec f = record { x = f 0; y = f 1; z = f 2 }
 
 -- three numbers of size at most b
-pub record Sized (b : ℕ) (v : Vec3) : Type 0 where
+pub record Sized (b : ℕ) (v : Vec3i) : Type 0 where
   pub x : natAbs (v .x) ≤ b
   pub y : natAbs (v .y) ≤ b
   pub z : natAbs (v .z) ≤ b
@@ -42,10 +42,10 @@ pub record BoxNumbers (s : List ℤ) : Type 0 where
   pub small : (i : ℕ) → i < flagPlace → natAbs (numberAt s i) ≤ distanceLimit
 
 -- a corner of the range, which begins at a place, and a column of the turn
-abbrev pub cornerAt : List ℤ → ℕ → Vec3
+abbrev pub cornerAt : List ℤ → ℕ → Vec3i
 cornerAt s from = vec (λ k. numberAt s (from + k * 1))
 
-abbrev pub columnAt : List ℤ → ℕ → Vec3
+abbrev pub columnAt : List ℤ → ℕ → Vec3i
 columnAt s j = vec (λ k. numberAt s (6 + j + k * 4))
 
 -- those of a box on the grid
@@ -57,7 +57,7 @@ pub record Placing (s : List ℤ) : Type 0 where
   pub translation : (j : ℕ) → j < 3 → natAbs (numberAt s (18 + j)) ≤ gridLimit
 
 -- a volume holds n planes
-pub record Counted (v : List Float) (n : ℕ) : Type 0 where
+pub record HoldsPlanes (v : List Float) (n : ℕ) : Type 0 where
   pub says : n ≡ countIn v
   pub whole : truncated (at v 0) ≡ pos n
   pub fewest : fewestPlanes ≤ n

@@ -8,7 +8,7 @@ ghost use Rattle.whole.specs.SegmentCall.{viewLength};
 ghost use Rattle.placed.specs.Numbers.{areWholeNumbers};
 ghost use Rattle.placed.specs.Placement.{quarterTurned};
 ghost use Rattle.placed.specs.BBoxCall.{countIn, boxNumbers, boxIn, onGrid, ByGrid, ExactBoxCall};
-ghost use Rattle.placed.specs.Steps.{placedBounds, Counted};
+ghost use Rattle.placed.specs.Steps.{placedBounds, HoldsPlanes};
 use crate::numbers::load;
 use crate::placement::put_bounds;
 use crate::placement::quarter_turned;
@@ -17,16 +17,18 @@ use number::answer::Refusal;
 use number::answer::Verdict;
 use number::limits::BOX_LENGTH;
 use number::limits::FLAG_PLACE;
+use number::limits::MOST_PLANES;
+use number::limits::PLANE_LENGTH;
 use number::limits::RANGE_LENGTH;
 use number::slice::all_finite;
 use number::slice::at;
 use verdict::bbox::is_flag;
 use verdict::view::Held;
-use verdict::view::planes_held;
+use verdict::view::checked;
 use whole::view::view_length;
 
 // Room for the count and the planes of a view.
-const VIEW_ROOM: usize = 57;
+const VIEW_ROOM: usize = 1 + MOST_PLANES as usize * PLANE_LENGTH;
 
 // Where the numbers in front of the flag of a box's record are whole and a grid box's: the least and the greatest corner of the placed box.
 fn place(bbox: &[f64], bounds: &mut [i32]) -> bool
@@ -45,9 +47,9 @@ fn place(bbox: &[f64], bounds: &mut [i32]) -> bool
     true
 }
 
-// Whether placed box and view share an exact point, of records that the filed verdict takes. The slice has room for the view in whole numbers.
+// Whether placed box and view share an exact point, of records that the filed verdict, that of `intersects_bbox`, takes. The slice has room for the view in whole numbers.
 fn by_grid(volume: &[f64], bbox: &[f64], view: &mut [i32]) -> Verdict
-    requires { ⌜ Counted (now volume) (countIn (now volume)) × (length (now bbox) ≡ boxLength) × (length (now view) ≡ viewLength (countIn (now volume))) ⌝ }
+    requires { ⌜ HoldsPlanes (now volume) (countIn (now volume)) × (length (now bbox) ≡ boxLength) × (length (now view) ≡ viewLength (countIn (now volume))) ⌝ }
     ensures { λ r. ⌜ ByGrid (now (volume .entry)) (now (bbox .entry)) (verdictOf r) (onGrid (now (volume .entry)) (now (bbox .entry))) ⌝ }
 {
     if !load(volume, view) {
@@ -68,14 +70,13 @@ pub fn exact_bbox(volume: &[f64], bbox: &[f64]) -> Verdict
     if bbox.len() != BOX_LENGTH {
         return Verdict::Refused(Refusal::InputLength);
     }
-    match planes_held(volume) {
+    match checked(
+        volume,
+        true,
+        is_flag(at(bbox, FLAG_PLACE)),
+        all_finite(bbox),
+    ) {
         Held::Planes(count) => {
-            if !is_flag(at(bbox, FLAG_PLACE)) {
-                return Verdict::Refused(Refusal::Kind);
-            }
-            if !(all_finite(volume) & all_finite(bbox)) {
-                return Verdict::Refused(Refusal::MissingNumber);
-            }
             let mut room = [0i32; VIEW_ROOM];
             by_grid(volume, bbox, &mut room[0..view_length(count)])
         }

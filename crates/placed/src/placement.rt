@@ -13,7 +13,7 @@ ghost use Rattle.placed.specs.Steps.{vecOf, vec, Sized, placedBounds, Bo
 use whole::view::on_grid;
 
 // Three numbers, by axis.
-pub struct Vec3 {
+pub struct Vec3i {
     pub x: i32,
     pub y: i32,
     pub z: i32,
@@ -28,11 +28,11 @@ fn number(s: &[i32], i: usize) -> i32
 }
 
 // Three numbers of a record, so many places apart.
-fn vec_at(s: &[i32], from: usize, apart: usize) -> Vec3
+fn vec_at(s: &[i32], from: usize, apart: usize) -> Vec3i
     requires { ⌜ BoxNumbers (now s) × (from + 2 * apart < flagPlace) ⌝ }
     ensures { λ r. ⌜ r ≡ vec (λ k. numberAt (now (s .entry)) (from + k * apart)) ⌝ }
 {
-    Vec3 {
+    Vec3i {
         x: number(s, from),
         y: number(s, from + apart),
         z: number(s, from + 2 * apart),
@@ -82,7 +82,7 @@ fn larger(x: i32, y: i32) -> i32
     x
 }
 
-impl Vec3 {
+impl Vec3i {
     // Whether one of them is 1 or -1, and the others are 0.
     fn is_single(self) -> bool
         requires { ⌜ Sized distanceLimit self ⌝ }
@@ -92,7 +92,7 @@ impl Vec3 {
     }
 
     // A point along an axis of a placement: by the column of its turn, and its translation.
-    fn moved(self, column: Vec3, translation: i32) -> i32
+    fn moved(self, column: Vec3i, translation: i32) -> i32
         requires { ⌜ Sized gridLimit self × Sized 1 column × (natAbs translation ≤ gridLimit) ⌝ }
         ensures { λ r. ⌜ r ≡ dotℤ (vecOf self) (vecOf column) +ℤ translation ⌝ }
     {

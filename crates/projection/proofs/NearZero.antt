@@ -14,7 +14,7 @@ use lib.Ieee.Exact.{HasValue}
 use lib.Ieee.Fits.{down-pos}
 use lib.Ieee.Order.{round-mono}
 use lib.Ieee.Positive.{positive, positive-finite, value-pos, positive-of-value, values-of-le}
-use lib.Ieee.Scale.{finite, grid, overflow, round-same, round-val, round-under, grid-scale, normal-of-fraction}
+use lib.Ieee.Scale.{grid, overflow, round-same, round-val, round-under, grid-scale, normal-of-fraction}
 use Rattle.number.specs.Arithmetic.{_⊖_, _⊗_, absOf, zeroOf, upperOf, maxOf}
 use Rattle.number.specs.Extremes.{Value}
 use Rattle.number.proofs.Comparisons.{le-through, lt-not-le, refuted}

@@ -25,14 +25,14 @@ use Rattle.projection.specs.declared.projection.Loaded.{Loaded}
 use Rattle.projection.specs.declared.projection.Loaded.the-variants.{Params as Read}
 use Rattle.projection.specs.declared.projection.Recovered.{Recovered}
 use Rattle.projection.specs.declared.projection.Recovered.the-variants.{Params, NotAProjection}
-use Rattle.projection.specs.Projection.{kindNumber, numbers, loaded, builtNumbers, tolerance, extent, closeAt, closeTo, bounded, close, projecting, perspectiveOf, orthographicOf, confirmed, recovered, recoveredNumbers}
+use Rattle.projection.specs.Projection.{kindNumber, numbers, paramsLoaded, builtNumbers, tolerance, extent, closeAt, closeTo, bounded, close, projecting, perspectiveOf, orthographicOf, confirmed, recovered, recoveredNumbers}
 use Rattle.projection.specs.ProjectionCalls.{projectionCall, recoveryCall}
 use Rattle.projection.specs.Recovery.{GivesBack, RecoveryGivesBack, centred, ThereAndBack, FamilyRecovered}
 
 -- ---- the record of a volume is taken for that volume
 
-as-kind : (kind : Projection) (p : ProjectionParams) → p .projection ≡ kind → loaded (kindNumber kind ∷ extent p) ≡ Read p
-unfolding loaded eq round units odd size span climb trailingZeros
+as-kind : (kind : Projection) (p : ProjectionParams) → p .projection ≡ kind → paramsLoaded (kindNumber kind ∷ extent p) ≡ Read p
+unfolding paramsLoaded eq round units odd size span climb trailingZeros
 as-kind Perspective p e = ap (λ (k : Projection). Read (record { projection = k; left = p .left; right = p .right; bottom = p .bottom; top = p .top; near = p .near; far = p .far })) (sym e)
 as-kind Orthographic p e = ap (λ (k : Projection). Read (record { projection = k; left = p .left; right = p .right; bottom = p .bottom; top = p .top; near = p .near; far = p .far })) (sym e)
 

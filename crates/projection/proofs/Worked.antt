@@ -6,14 +6,14 @@ use lib.Ieee.{Float, nan, neg, eq, round, units, odd, size, span, climb}
 use Rattle.matrix.specs.Constants.{positiveZero}
 use Rattle.projection.specs.declared.projection.Projection.the-variants.{Perspective}
 use Rattle.projection.specs.declared.projection.Loaded.the-variants.{Params, UnknownKind}
-use Rattle.projection.specs.Projection.{paramsOf, loaded}
+use Rattle.projection.specs.Projection.{paramsOf, paramsLoaded}
 
 -- "a zero of either sign counts as 0"
-negative-zero : (s : List Float) → loaded (neg positiveZero ∷ s) ≡ Params (paramsOf Perspective (neg positiveZero ∷ s))
-unfolding loaded eq neg round units odd size span climb trailingZeros
+negative-zero : (s : List Float) → paramsLoaded (neg positiveZero ∷ s) ≡ Params (paramsOf Perspective (neg positiveZero ∷ s))
+unfolding paramsLoaded eq neg round units odd size span climb trailingZeros
 negative-zero s = refl
 
 -- a NaN names no kind
-not-a-kind : (s : List Float) → loaded (nan ∷ s) ≡ UnknownKind
-unfolding loaded eq
+not-a-kind : (s : List Float) → paramsLoaded (nan ∷ s) ≡ UnknownKind
+unfolding paramsLoaded eq
 not-a-kind s = refl

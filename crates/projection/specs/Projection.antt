@@ -41,8 +41,8 @@ abbrev pub paramsOf : Projection → List Float → ProjectionParams
 paramsOf kind s = record { projection = kind; left = at s 1; right = at s 2; bottom = at s 3; top = at s 4; near = at s 5; far = at s 6 }
 
 -- "a zero of either sign counts as 0"; a NaN names no kind
-unfoldable pub loaded : List Float → Loaded
-loaded s =
+unfoldable pub paramsLoaded : List Float → Loaded
+paramsLoaded s =
     cond (eq (at s 0) positiveZero) (Read (paramsOf Perspective s))
     (cond (eq (at s 0) one) (Read (paramsOf Orthographic s)) UnknownKind)
 

@@ -6,11 +6,11 @@ use lib.Ieee.{Float}
 use Rattle.number.specs.Limits.{matrixLength, projectionLength}
 use Rattle.number.specs.Answer.{Reply, has, attempting}
 use Rattle.matrix.specs.Matrix.{matrixOf}
-use Rattle.projection.specs.Projection.{loaded, builtNumbers, recovered, recoveredNumbers}
+use Rattle.projection.specs.Projection.{paramsLoaded, builtNumbers, recovered, recoveredNumbers}
 
 -- "building gives 1, 2, 3"
 unfoldable pub projectionCall : List Float → List Float → Reply Float
-projectionCall p out = attempting (has projectionLength p) matrixLength (builtNumbers (loaded p)) out
+projectionCall p out = attempting (has projectionLength p) matrixLength (builtNumbers (paramsLoaded p)) out
 
 -- "Recovery gives 1, 2, then 6"
 unfoldable pub recoveryCall : List Float → List Float → Reply Float

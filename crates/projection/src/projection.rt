@@ -1,6 +1,6 @@
 // Projections: the numbers of one, the matrix that is built from them, and the numbers recovered from a matrix.
 ghost use mathlib.Core.Path.{_≡_};
-ghost use Rattle.projection.specs.Projection.{kindNumber, numbers, paramsOf, loaded, perspective, orthographic, projecting, around, perspectiveOf, orthographicOf, close, closeTo, bounded, confirmed, recovered, recoveredFrom};
+ghost use Rattle.projection.specs.Projection.{kindNumber, numbers, paramsOf, paramsLoaded, perspective, orthographic, projecting, around, perspectiveOf, orthographicOf, close, closeTo, bounded, confirmed, recovered, recoveredFrom};
 ghost use Rattle.matrix.specs.Constants.{positiveZero};
 ghost use Rattle.number.specs.Slice.{stored};
 use matrix::matrix::Mat4d;
@@ -336,7 +336,7 @@ impl ProjectionParams {
 
     // The first seven numbers of a slice.
     pub fn load(s: &[f64]) -> Loaded
-        ensures { λ r. ⌜ r ≡ loaded (now (s .entry)) ⌝ }
+        ensures { λ r. ⌜ r ≡ paramsLoaded (now (s .entry)) ⌝ }
     {
         let kind = at(s, 0);
         if kind == 0.0 {

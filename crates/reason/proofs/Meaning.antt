@@ -2,40 +2,44 @@
 -- nothing, or a space and more bytes that do not end it. Assumes nothing.
 use mathlib.Core.Path.{_≡_, refl, sym, ap, subst, _∙_}
 use mathlib.Core.Bool.{Bool, true, false, cond, _&&_, and-assoc}
-use mathlib.Core.List.{List, [], _∷_, _++_, map, append-assoc}
+use mathlib.Core.List.{List, [], _∷_, _++_, map, map-map, append-assoc}
 use Prim.Native.Nat.{ℕ, suc, _+_, _-_, _/_, _%_, _≤_}
 use native.Mathlib.Omega.{arith}
 use borrow.Author.Tests.{le-leb, leb-true, ne-eqb}
 use lib.Dec.{eqb, ltb, leb}
+use lib.Ieee.{Float}
 use Rattle.number.specs.Every.{every}
 use Rattle.number.specs.Answer.{Outcome, refused, result}
 use Rattle.number.proofs.Tests.{both-hold}
 use Rattle.placed.proofs.Calls.{one-answer-allowed}
-use Rattle.farm.specs.declared.directory.Section.{Section}
-use Rattle.farm.specs.Directory.{boxSections}
-use Rattle.farm.specs.FarmFile.{inView, farmFile}
-use Rattle.farm.specs.Lines.{decimal, yesOrNo, refusedWord, refusedLine, linesOf, line as farmLine, linesFrom as farmLinesFrom}
+use Rattle.verdict.specs.declared.plane.Plane.{Plane}
+use Rattle.verdict.specs.BBox.{boxOf}
+use Rattle.verdict.specs.Frustum.{boxInView}
+use Rattle.farm.specs.Directory.{boxSections, numbersOf}
+use Rattle.farm.specs.FarmFile.{farmFile}
+use Rattle.farm.specs.Text.{decimal, linesFrom, refusedWord, refusedLine}
+use Rattle.farm.specs.Lines.{yesOrNo, line, linesOf}
 use Rattle.farm.proofs.Answers.{verdicts-are}
-use Rattle.reason.specs.Lines.{Reason, verdictWord, emptyWord, placeWords, behindWords, exactWord, line, linesFrom}
-use Rattle.reason.specs.Explained.{reasonOf, Reasons, none, more, ToldBy, Explained}
-use Rattle.reason.specs.Meaning.{wordsLeft, firstWords, OneText, RefusedAlike, FirstTwoWords}
+use Rattle.reason.specs.Lines.{Reason, verdictWord, emptyWord, placeWords, behindWords, exactWord, reasonLine}
+use Rattle.reason.specs.Explained.{filePlanes, reasonOf, Reasons, none, more, ToldBy, Explained}
+use Rattle.reason.specs.Meaning.{wordsLeft, firstWords, OneText, SameRefusal, FirstTwoWords}
 
 -- ---- one text
 
-same-reasons : {b : List ℕ} {ss : List Section} {rs qs : List Reason} → Reasons b ss rs → Reasons b ss qs → rs ≡ qs
+same-reasons : {v : List Float} {ps : List Plane} {xs : List (List Float)} {rs qs : List Reason} → Reasons v ps xs rs → Reasons v ps xs qs → rs ≡ qs
 same-reasons none none = refl
-same-reasons {b} (more {s} x c r) (more y d q) = λ k. reasonOf b s (one-answer-allowed _ _ x y c d k) ∷ same-reasons r q k
+same-reasons {ps = ps} (more {x} a c r) (more b d q) = λ k. reasonOf ps x (one-answer-allowed _ _ a b c d k) ∷ same-reasons r q k
 
 pub one-text : OneText
 one-text b l l' p q = go (farmFile b) p q
   where
     go : (o : Outcome (List Bool)) → ToldBy b o l → ToldBy b o l' → l ≡ l'
     go (refused k) x y = x ∙ sym y
-    go (result vs) x y = x .lines ∙ ap (linesFrom 1) (same-reasons (x .allowed) (y .allowed)) ∙ sym (y .lines)
+    go (result vs) x y = x .lines ∙ ap (linesFrom reasonLine 1) (same-reasons (x .allowed) (y .allowed)) ∙ sym (y .lines)
 
-pub refused-alike : RefusedAlike
+pub same-refusal : SameRefusal
 unfolding linesOf
-refused-alike b l k e p = subst (λ (o : Outcome (List Bool)). ToldBy b o l) e p ∙ sym (ap linesOf e)
+same-refusal b l k e p = subst (λ (o : Outcome (List Bool)). ToldBy b o l) e p ∙ sym (ap linesOf e)
 
 -- ---- bytes of words
 
@@ -158,8 +162,8 @@ unfolding firstWords
 verdict-kept true t s e = ap (λ (l : List ℕ). 32 ∷ 121 ∷ 101 ∷ 115 ∷ l) e
 verdict-kept false t s e = ap (λ (l : List ℕ). 32 ∷ 110 ∷ 111 ∷ l) e
 
-line-kept : (k : ℕ) (r : Reason) (t : List ℕ) → firstWords 2 (line k r ++ t) ≡ farmLine k (r .verdict) ++ firstWords 2 t
-unfolding line farmLine
+line-kept : (k : ℕ) (r : Reason) (t : List ℕ) → firstWords 2 (reasonLine k r ++ t) ≡ line k (r .verdict) ++ firstWords 2 t
+unfolding reasonLine line
 line-kept k r t =
     let d = decimal k in
     let v = r .verdict in
@@ -169,11 +173,12 @@ line-kept k r t =
     ∙ ap (λ (l : List ℕ). d ++ l) (verdict-kept v ((b ++ x) ++ (10 ∷ t)) (firstWords 2 t) (tail-cut t (tail-joined (behind-tail v (r .empty) (r .behind)) (exact-tail v (r .exact)))))
     ∙ sym (append-assoc d (yesOrNo v) (firstWords 2 t))
 
-lines-kept : (b : List ℕ) (k : ℕ) {ss : List Section} {rs : List Reason} → Reasons b ss rs → firstWords 2 (linesFrom k rs) ≡ farmLinesFrom k (map (inView b) ss)
-unfolding linesFrom farmLinesFrom firstWords
-lines-kept b k none = refl
-lines-kept b k (more {s} {ss} {rs} answer c q) =
-    line-kept k (reasonOf b s answer) (linesFrom (suc k) rs) ∙ ap (λ (l : List ℕ). farmLine k (inView b s) ++ l) (lines-kept b (suc k) q)
+lines-kept : {v : List Float} (ps : List Plane) (k : ℕ) {xs : List (List Float)} {rs : List Reason} → Reasons v ps xs rs
+    → firstWords 2 (linesFrom reasonLine k rs) ≡ linesFrom line k (map (λ x. boxInView ps (boxOf x)) xs)
+unfolding linesFrom firstWords
+lines-kept ps k none = refl
+lines-kept ps k (more {x} {xs} {rs} answer c q) =
+    line-kept k (reasonOf ps x answer) (linesFrom reasonLine (suc k) rs) ∙ ap (λ (l : List ℕ). line k (boxInView ps (boxOf x)) ++ l) (lines-kept ps (suc k) q)
 
 refused-kept : (k : ℕ) → firstWords 2 (refusedLine k) ≡ refusedLine k
 unfolding refusedLine firstWords
@@ -187,4 +192,6 @@ first-two-words b l p = go (farmFile b) refl p
   where
     go : (o : Outcome (List Bool)) → farmFile b ≡ o → ToldBy b o l → firstWords 2 l ≡ linesOf o
     go (refused k) e x = ap (firstWords 2) x ∙ refused-kept k
-    go (result vs) e x = ap (firstWords 2) (x .lines) ∙ lines-kept b 1 (x .allowed) ∙ ap (farmLinesFrom 1) (sym (verdicts-are b vs e))
+    go (result vs) e x =
+        ap (firstWords 2) (x .lines) ∙ lines-kept (filePlanes b) 1 (x .allowed)
+        ∙ ap (linesFrom line 1) (map-map (λ s. boxInView (filePlanes b) (boxOf s)) (numbersOf b) (boxSections b) ∙ sym (verdicts-are b vs e))

@@ -1,4 +1,4 @@
--- The parts of a line, one behind the other, and how many bytes they have at most; lines one behind the other. Assumes nothing.
+-- The parts of a line, and how many bytes they have at most. Assumes nothing.
 use mathlib.Core.Path.{_≡_, refl, sym, ap, _∙_}
 use mathlib.Core.Bool.{Bool, true, false, cond}
 use mathlib.Core.List.{List, [], _∷_, _++_, append-assoc, append-nil}
@@ -8,10 +8,11 @@ use native.Mathlib.Omega.{arith}
 use lib.ListN.{length, length-append}
 use Rattle.number.specs.Answer.{Outcome, refused, result}
 use Rattle.number.specs.Places.{placesBelow}
-use Rattle.farm.specs.Lines.{decimal}
+use Rattle.farm.specs.Text.{decimal}
+use Rattle.farm.specs.Steps.{Put}
 use Rattle.farm.proofs.Texts.{has-room, none-put, short-decimal}
-use Rattle.reason.specs.Lines.{Reason, verdictWord, emptyWord, placeWords, behindWords, exactWord, line, linesFrom}
-use Rattle.reason.specs.Steps.{Put, placesRoom, lineRoom}
+use Rattle.reason.specs.Lines.{Reason, verdictWord, emptyWord, placeWords, behindWords, exactWord, reasonLine}
+use Rattle.reason.specs.Steps.{placesRoom, reasonRoom}
 
 pub no-bytes : (t : List ℕ) (at : ℕ) → at ≤ length t → Put t at [] at t
 no-bytes t at h = has-room t at [] at t (omega (arith, h)) (none-put t at)
@@ -67,8 +68,8 @@ short-exact true (result false) = omega arith
 short-exact false (result true) = omega arith
 short-exact false (result false) = omega arith
 
-pub short-line : (k : ℕ) (r : Reason) → length (placeWords (r .behind)) ≤ placesRoom → length (line k r) ≤ lineRoom
-unfolding line
+pub short-line : (k : ℕ) (r : Reason) → length (placeWords (r .behind)) ≤ placesRoom → length (reasonLine k r) ≤ reasonRoom
+unfolding reasonLine
 short-line k r h =
     let d = decimal k in
     let v = verdictWord (r .verdict) in
@@ -85,17 +86,3 @@ short-line k r h =
       short-behind (r .verdict) (r .empty) (r .behind) h,
       short-exact (r .verdict) (r .exact),
     )
-
--- ---- lines
-
-lines-joined : (k : ℕ) (a b : List Reason) → linesFrom k (a ++ b) ≡ linesFrom k a ++ linesFrom (k + length a) b
-unfolding linesFrom
-lines-joined k [] b = let e : k ≡ k + 0 = omega arith in ap (λ (n : ℕ). linesFrom n b) e
-lines-joined k (r ∷ a) b =
-    let e : suc k + length a ≡ k + suc (length a) = omega arith in
-    ap (λ (l : List ℕ). line k r ++ l) (lines-joined (suc k) a b ∙ ap (λ (n : ℕ). linesFrom (suc k) a ++ linesFrom n b) e)
-    ∙ sym (append-assoc (line k r) (linesFrom (suc k) a) (linesFrom (k + suc (length a)) b))
-
-pub lines-more : (k : ℕ) (rs : List Reason) (r : Reason) → linesFrom k (rs ++ (r ∷ [])) ≡ linesFrom k rs ++ line (k + length rs) r
-unfolding linesFrom
-lines-more k rs r = lines-joined k rs (r ∷ []) ∙ ap (λ (l : List ℕ). linesFrom k rs ++ l) (append-nil (line (k + length rs) r))

@@ -1,11 +1,9 @@
 -- The lines that say why a block has its class, as bytes in ASCII. Definitions only.
-use Prim.Native.Nat.{ℕ, suc}
+use Prim.Native.Nat.{ℕ}
 use mathlib.Core.Bool.{Bool, cond}
 use mathlib.Core.List.{List, [], _∷_, _++_}
-use lib.ListN.{take}
 use Rattle.number.specs.Answer.{Outcome, refused, result}
-use Rattle.farm.specs.Lines.{decimal}
-use Rattle.reason.specs.declared.lines.Text.{Text}
+use Rattle.farm.specs.Text.{decimal}
 
 -- what is told of a box: its verdict; whether its range is empty; the places of the planes that it is wholly behind; and the exact verdict, or that there is none
 pub record Reason : Type 0 where
@@ -45,16 +43,6 @@ exactWord v (refused k) = []
 exactWord v (result e) = cond v (cond e [] exactNo) (cond e exactYes [])
 
 -- the line of section k
-unfoldable pub line : ℕ → Reason → List ℕ
+unfoldable pub reasonLine : ℕ → Reason → List ℕ
 unfolding decimal placeWords
-line k r = decimal k ++ verdictWord (r .verdict) ++ behindWords (r .verdict) (r .empty) (r .behind) ++ exactWord (r .verdict) (r .exact) ++ (10 ∷ [])
-
--- the lines of several boxes, from section k on
-unfoldable pub linesFrom : ℕ → List Reason → List ℕ
-unfolding line
-linesFrom k [] = []
-linesFrom k (r ∷ rs) = line k r ++ linesFrom (suc k) rs
-
--- the lines of a text: its first bytes
-abbrev pub shown : Text → List ℕ
-shown t = take (t .size) (t .bytes)
+reasonLine k r = decimal k ++ verdictWord (r .verdict) ++ behindWords (r .verdict) (r .empty) (r .behind) ++ exactWord (r .verdict) (r .exact) ++ (10 ∷ [])

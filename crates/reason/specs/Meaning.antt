@@ -15,8 +15,8 @@ abbrev pub OneText : Type 0
 OneText = (b l l' : List ℕ) → Explained b l → Explained b l' → l ≡ l'
 
 -- A refused file gives the line that `farm_file` prints.
-abbrev pub RefusedAlike : Type 0
-RefusedAlike = (b l : List ℕ) (k : ℕ) → farmFile b ≡ refused k → Explained b l → l ≡ linesOf (farmFile b)
+abbrev pub SameRefusal : Type 0
+SameRefusal = (b l : List ℕ) (k : ℕ) → farmFile b ≡ refused k → Explained b l → l ≡ linesOf (farmFile b)
 
 -- how many words of a line are left, with the byte c: a space ends a word
 abbrev pub wordsLeft : ℕ → ℕ → ℕ

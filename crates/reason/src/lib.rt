@@ -1,2 +1,2 @@
 // Why each block of a farm file has its class: the lines of the program `explain`.
-pub mod lines;
+pub mod explain;

@@ -6,8 +6,8 @@ use lib.Dec.{ltb}
 use lib.ListN.{getD, set}
 
 -- how many numbers the inputs have together
-abbrev pub numbersIn : List ℕ → ℕ
-numbersIn n = getD n 0 0 + getD n 1 0 + getD n 2 0 + getD n 3 0
+abbrev pub inputNumbers : List ℕ → ℕ
+inputNumbers n = getD n 0 0 + getD n 1 0 + getD n 2 0 + getD n 3 0
 
 -- a slice is lent: no lone number, and not nothing
 abbrev pub isLent : List ℕ → ℕ → Bool

@@ -3,5 +3,4 @@ pub mod Words
 pub mod Same
 pub mod Lengths
 pub mod Answers
-pub mod Counts
 pub mod Trials

@@ -2,12 +2,12 @@
 // 1 for a lone number or a verdict, which is lent no slice.
 ghost use mathlib.Core.Path.{_≡_};
 ghost use Prim.Native.Nat.{_-_};
-ghost use Rattle.replay.specs.Lengths.{numbersIn, isLent, shorter, longer, refusalAt};
+ghost use Rattle.replay.specs.Lengths.{inputNumbers, isLent, shorter, longer, refusalAt};
 use crate::wide;
 
 // How many numbers the inputs have together.
 pub fn total(lengths: [u8; 5]) -> usize
-    ensures { λ r. ⌜ r ≡ numbersIn lengths ⌝ }
+    ensures { λ r. ⌜ r ≡ inputNumbers lengths ⌝ }
 {
     wide(lengths[0]) + wide(lengths[1]) + wide(lengths[2]) + wide(lengths[3])
 }

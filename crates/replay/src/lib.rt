@@ -4,7 +4,6 @@ ghost use mathlib.Core.Path.{_≡_};
 ghost use Prim.Native.Nat.{_<_};
 
 pub mod answer;
-pub mod counts;
 pub mod inputs;
 pub mod lengths;
 pub mod same;

@@ -1,6 +1,7 @@
 // Whether answers are those recorded, with the signs of their zeros or whatever these are.
 ghost use mathlib.Core.Path.{_≡_};
 ghost use Rattle.replay.specs.Same.{same, allSame};
+use crate::words::ROOM;
 use number::format::to_bits;
 
 pub fn same(signed: bool, x: f64, y: f64) -> bool
@@ -25,7 +26,7 @@ fn slices_same(signed: bool, a: &[f64], b: &[f64]) -> bool
     true
 }
 
-pub fn all_same(signed: bool, a: &[f64; 192], b: &[f64; 192]) -> bool
+pub fn all_same(signed: bool, a: &[f64; ROOM], b: &[f64; ROOM]) -> bool
     ensures { λ r. ⌜ r ≡ allSame signed (now (a .entry)) (now (b .entry)) ⌝ }
 {
     slices_same(signed, a, b)

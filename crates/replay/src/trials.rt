@@ -10,12 +10,13 @@ use crate::lengths::longer;
 use crate::lengths::refusal;
 use crate::lengths::shorter;
 use crate::same::all_same;
+use crate::words::ROOM;
 
 // What stands where nothing was answered.
-pub fn blank() -> [f64; 192]
+pub fn blank() -> [f64; ROOM]
     ensures { λ r. ⌜ (r ≡ blank) × (192 ≡ length r) ⌝ }
 {
-    [12345.0; 192]
+    [12345.0; ROOM]
 }
 
 // The lengths of a trial.
@@ -32,7 +33,7 @@ pub fn tried(lengths: [u8; 5], trial: usize) -> [u8; 5]
     lengths
 }
 
-fn is_blank(numbers: &[f64; 192]) -> bool
+fn is_blank(numbers: &[f64; ROOM]) -> bool
     ensures { λ r. ⌜ r ≡ allSame true (now (numbers .entry)) blank ⌝ }
 {
     let nothing = blank();
@@ -46,9 +47,9 @@ pub fn accepts(
     trial: usize,
     signed: bool,
     status: u64,
-    answer: &[f64; 192],
+    answer: &[f64; ROOM],
     got: u64,
-    left: &[f64; 192],
+    left: &[f64; ROOM],
 ) -> bool
     ensures { λ r. ⌜ r ≡ accepted lengths trial signed status (now (answer .entry)) got (now (left .entry)) ⌝ }
 {

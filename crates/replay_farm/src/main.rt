@@ -1,8 +1,13 @@
 // Replays recorded farm files, one behind the other on standard input: 32 bits that say how many bytes a file has, the low byte
 // first, and its bytes. For each the program prints its place, its lines and its explained lines.
-use farm::lines::front;
 use farm::lines::lines;
+use farm::text::front;
 use number::bytes::word_32;
+use number::limits::LARGEST_FILE;
+use reason::explain::explain;
+
+// One byte more than the largest file has.
+const FILE_ROOM: usize = LARGEST_FILE + 1;
 
 fn print_place(place: u64) {
     io::write_all(1, b"file ");
@@ -20,7 +25,7 @@ fn replay_file(place: u64, room: &mut [u8], size: usize) {
     print_place(place);
     let text = lines(file);
     io::write_all(1, front(&text.bytes, text.size));
-    let explained = reason::lines::lines(file);
+    let explained = explain(file);
     io::write_all(1, front(&explained.bytes, explained.size));
 }
 
@@ -30,8 +35,7 @@ fn replay_next(place: u64) -> bool {
     if io::read_full(0, &mut head) < 4 {
         return false;
     }
-    // one byte more than the largest file has
-    let mut room = [0u8; 65537];
+    let mut room = [0u8; FILE_ROOM];
     replay_file(place, &mut room, word_32(&head, 0) as usize);
     true
 }

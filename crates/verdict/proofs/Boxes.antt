@@ -6,7 +6,7 @@ use lib.Ieee.{Float}
 use Rattle.matrix.specs.Range.{isEmpty}
 use Rattle.matrix.specs.declared.matrix.Mat4d.{Mat4d}
 use Rattle.matrix.specs.declared.range.Range3d.{Range3d}
-use Rattle.verdict.specs.BBox.{box, intoBox, volume, preferred, extended, smaller, aligned, merged, held}
+use Rattle.verdict.specs.BBox.{box, intoBox, volume, preferred, extended, smallerBox, aligned, merged, held}
 use Rattle.verdict.specs.declared.bbox.BBox3d.{BBox3d}
 use Rattle.verdict.specs.declared.bbox.Inverse.{Inverse}
 
@@ -34,7 +34,7 @@ module _ (a b : BBox3d) (e : Bool) (p : e ≡ isEmpty (a .range)) where
 module _ (a b : BBox3d) (i j : Inverse) (p : i ≡ intoBox a) (q : j ≡ intoBox b) where
   abbrev choice : Bool → Bool → BBox3d
   choice x y =
-      cond x (cond y (smaller (extended a b (i .matrix)) (extended b a (j .matrix))) (extended a b (i .matrix)))
+      cond x (cond y (smallerBox (extended a b (i .matrix)) (extended b a (j .matrix))) (extended a b (i .matrix)))
       (cond y (extended b a (j .matrix)) (aligned a b))
 
   known : choice (i .exists) (j .exists) ≡ merged a b (intoBox a) (intoBox b)
@@ -44,9 +44,9 @@ module _ (a b : BBox3d) (i j : Inverse) (p : i ≡ intoBox a) (q : j ≡ intoBox
   by : (x y : Bool) → i .exists ≡ x → j .exists ≡ y → choice x y ≡ merged a b (intoBox a) (intoBox b)
   by x y f g = sym (ap₂ choice f g) ∙ known
 
-  pub merged-smaller : (r s t : BBox3d) → i .exists ≡ true → j .exists ≡ true → s ≡ extended a b (i .matrix) → t ≡ extended b a (j .matrix) → r ≡ smaller s t
+  pub merged-smaller : (r s t : BBox3d) → i .exists ≡ true → j .exists ≡ true → s ≡ extended a b (i .matrix) → t ≡ extended b a (j .matrix) → r ≡ smallerBox s t
       → r ≡ merged a b (intoBox a) (intoBox b)
-  merged-smaller r s t f g d e h = h ∙ ap₂ smaller d e ∙ by true true f g
+  merged-smaller r s t f g d e h = h ∙ ap₂ smallerBox d e ∙ by true true f g
 
   pub merged-first : (r : BBox3d) → i .exists ≡ true → j .exists ≡ false → r ≡ extended a b (i .matrix) → r ≡ merged a b (intoBox a) (intoBox b)
   merged-first r f g e = e ∙ by true false f g
@@ -60,10 +60,10 @@ module _ (a b : BBox3d) (i j : Inverse) (p : i ≡ intoBox a) (q : j ≡ intoBox
 -- ---- by the volumes
 
 module _ (a b : BBox3d) (v w : Float) (z : Bool) (p : v ≡ volume a) (q : w ≡ volume b) (r : z ≡ preferred v w) where
-  pub smaller-first : z ≡ true → a ≡ smaller a b
-  unfolding smaller
+  pub smaller-first : z ≡ true → a ≡ smallerBox a b
+  unfolding smallerBox
   smaller-first t = rw (← p, ← q, ← r, t)
 
-  pub smaller-second : z ≡ false → b ≡ smaller a b
-  unfolding smaller
+  pub smaller-second : z ≡ false → b ≡ smallerBox a b
+  unfolding smallerBox
   smaller-second t = rw (← p, ← q, ← r, t)

@@ -1,36 +1,50 @@
 -- The filter settles the test of a plane by a range: where the estimate is as large as the bound on its error, the reach and the distance, rounded as they are, lie on the side that it tells. The idea: times the
 -- length of the normal, the reach is close to n · c and the distance to -w, and so is the estimate to their sum; all the errors together are less than a part of the sizes that are added up. Assumes nothing.
-use mathlib.Core.Path.{_≡_, refl, ap, _∙_, subst}
+use mathlib.Core.Path.{_≡_, refl, ap, _∙_}
 use mathlib.Core.Bool.{Bool, true, false, not, _&&_}
 use Prim.Native.Nat.{ℕ, _+_, _*_, _^_, _≤_, _<_}
-use native.Mathlib.Nat.{mul-le-mul-right, mul-le-mul, le-trans, le-of-mul-le-mul-right, lt-of-mul-lt-mul-right}
+use native.Mathlib.Nat.{mul-le-mul-right, mul-le-mul-left, le-trans, le-of-mul-le-mul-right, le-of-mul-le-mul-left}
 use native.Mathlib.Omega.{arith}
-use lib.Dec.{T}
-use lib.Ieee.{Float, binary64, unlike, lt, le, neg}
+use lib.Dec.{T, lit≤}
+use lib.Ieee.{Float, binary64, fits, lt, le, neg}
 use lib.Ieee.Bits.{is-true}
-use lib.Ieee.Exact.{HasValue}
-use lib.Ieee.Fits.{and-l, and-r, add-fits}
-use lib.Ieee.Positive.{positive}
+use lib.Ieee.Fits.{add-fits}
+use lib.Ieee.Positive.{positive-of-value}
+use lib.Ieee.Scale.{finite}
 use Rattle.number.specs.Arithmetic.{_⊕_, _⊗_, _⊘_, absOf, maxOf}
 use Rattle.number.specs.Root.{sqrtOf}
-use Rattle.number.proofs.Comparisons.{over-zero, under-zero, lt-not-le, refuted}
-use Rattle.number.proofs.RoundingError.{unit, room, unit-positive, mul-error, div-error, le-units, lt-units, units-le, units-lt}
+use Rattle.number.proofs.Comparisons.{over-zero, under-zero, le-through, lt-le, between-finite, refuted}
 use Rattle.matrix.specs.Constants.{rounded, one, minLength}
 use Rattle.matrix.specs.Vec.{lengthOf, normalized}
 use Rattle.matrix.specs.Range.{isEmpty}
 use Rattle.matrix.specs.declared.vec.Vec4d.{Vec4d}
 use Rattle.matrix.specs.declared.range.Range3d.{Range3d}
 use Rattle.verdict.specs.Plane.{fromEquation, endToward, reachesPositiveSide}
-use Rattle.verdict.specs.Steps.Filter.{short, long, least, most, part, extentOf, sizeOf, errorOf, trusted, Fits, RangeFits, FilterSettles}
+use Rattle.verdict.specs.Steps.Filter.{short, long, leastSize, mostSize, extentOf, sizeOf, errorOf, trusted, Fits, RangeFits, FilterSettles}
 use Rattle.verdict.proofs.ReachSum.{reach-by-dot}
 use Rattle.verdict.proofs.LengthBracket.{larger-is, offset-is}
-use Rattle.verdict.proofs.FilterBounds.{bound, bound-positive, bound-room, bound-unit, abs-held, neg-held, one-held, three-held, part-held, Bounded, length-held, least-held, rest-held}
-use Rattle.verdict.proofs.FilterNumbers.{Within, extent-held, numbers-held}
-use Rattle.verdict.proofs.FilterTerms.{Close, at-most, product-size}
-use Rattle.verdict.proofs.FilterSums.{times-three, times-four, three-near, to-close, to-close-four, ahead, behind}
-use Rattle.verdict.proofs.FilterAxis.{f, slack, Axis, axis, signed, many, least-unit, grow}
-use Rattle.verdict.proofs.FilterReach.{three, four, positive-two, positive-three}
-use Rattle.verdict.proofs.FilterBudget.{exact-size, three-numbers, products, sixteenth, error-size, budget, outweighs, slack-size, unit-slack}
+use Rattle.number.proofs.RoundingError.{unit, room, unit-positive, least-of, most-of, Is, is-value, Units, Rounded, units-of, abs-is, neg-is, product, product-like, quotient, sum-like, both-sides, le-units, add-finite-both, mul-finite-both}
+use Rattle.number.proofs.CountedErrors.{About, about, rounded-about, Scale, add}
+use Rattle.number.proofs.RootBracket.{Root, root-of}
+use Rattle.verdict.proofs.FilterTerms.{normals, Sizes, sizes, rooms}
+use Rattle.verdict.proofs.FilterNumbers.{far, Normal, End, up-to, down-to, part-units, figures, at-most, over, under, finite-abs, Within, Extent, extent}
+use Rattle.verdict.proofs.FilterAxis.{Axis, axis, room-for}
+
+-- the error as 128 parts
+parts : (m : ℕ) → (ε : ℕ) × (128 * ε ≡ m * unit)
+unfolding unit
+parts m = (m * 2 ^ 1067, go (2 ^ 1067) (2 ^ 1074) refl)
+  where
+    go : (e u : ℕ) → 128 * e ≡ u → 128 * (m * e) ≡ m * u
+    go e u h = omega (arith, ap (λ (i : ℕ). m * i) h)
+
+five : (a b c d e : Bool) → T (a && b && c && d && e) → T a × T b × T c × T d × T e
+five false b c d e h = absurd h
+five true false c d e h = absurd h
+five true true false d e h = absurd h
+five true true true false e h = absurd h
+five true true true true false h = absurd h
+five true true true true true h = (tt, tt, tt, tt, tt)
 
 -- ---- the numbers of the test
 
@@ -44,436 +58,271 @@ module _ (x y z w : Float) (r : Range3d) (he : Fits (record { x = x; y = y; z = 
   abbrev size : Float
   size = sizeOf e r
 
-  abbrev extent : Float
-  extent = extentOf r
+  tests : T (lt (extentOf r) long) × T (lt (short ⊗ short) q) × T (lt q (long ⊗ long)) × T (lt leastSize size) × T (lt size mostSize)
+  tests = five (lt (extentOf r) long) (lt (short ⊗ short) q) (lt q (long ⊗ long)) (lt leastSize size) (lt size mostSize) H
 
-  -- the tests
-  abbrev t0 : Bool
-  t0 = lt extent long
+  -- all is finite
+  size-finite : T (finite size)
+  size-finite = between-finite leastSize size mostSize (figures .least-finite) (figures .most-finite) (lt-le leastSize size (tests .3)) (lt-le size mostSize (tests .4))
 
-  abbrev t1 : Bool
-  t1 = lt (short ⊗ short) q
+  parts-finite : T (finite (extentOf r ⊗ (rounded 3 1 ⊕ q))) × T (finite (absOf w))
+  parts-finite = add-finite-both (extentOf r ⊗ (rounded 3 1 ⊕ q)) (absOf w) size-finite
 
-  abbrev t2 : Bool
-  t2 = lt q (long ⊗ long)
+  factors-finite : T (finite (extentOf r)) × T (finite (rounded 3 1 ⊕ q))
+  factors-finite = mul-finite-both (extentOf r) (rounded 3 1 ⊕ q) (parts-finite .0)
 
-  abbrev t3 : Bool
-  t3 = lt least size
+  square-finite : T (finite q)
+  square-finite = add-finite-both (rounded 3 1) q (factors-finite .1) .1
 
-  abbrev t4 : Bool
-  t4 = lt size most
+  squares-finite : T (finite (x ⊗ x ⊕ y ⊗ y)) × T (finite (z ⊗ z))
+  squares-finite = add-finite-both (x ⊗ x ⊕ y ⊗ y) (z ⊗ z) square-finite
 
-  near : T (lt extent long)
-  near = and-l t0 t1 (and-l (t0 && t1) t2 (and-l (t0 && t1 && t2) t3 (and-l (t0 && t1 && t2 && t3) t4 H)))
+  two-finite : T (finite (x ⊗ x)) × T (finite (y ⊗ y))
+  two-finite = add-finite-both (x ⊗ x) (y ⊗ y) (squares-finite .0)
 
-  above : T (lt (short ⊗ short) q)
-  above = and-r t0 t1 (and-l (t0 && t1) t2 (and-l (t0 && t1 && t2) t3 (and-l (t0 && t1 && t2 && t3) t4 H)))
+  nx : Units x
+  nx = units-of x (he .0) (mul-finite-both x x (two-finite .0) .0)
 
-  under : T (lt q (long ⊗ long))
-  under = and-r (t0 && t1) t2 (and-l (t0 && t1 && t2) t3 (and-l (t0 && t1 && t2 && t3) t4 H))
+  ny : Units y
+  ny = units-of y (he .1) (mul-finite-both y y (two-finite .1) .0)
 
-  some : T (lt least size)
-  some = and-r (t0 && t1 && t2) t3 (and-l (t0 && t1 && t2 && t3) t4 H)
+  nz : Units z
+  nz = units-of z (he .2) (mul-finite-both z z (squares-finite .1) .0)
 
-  bounded : T (lt size most)
-  bounded = and-r (t0 && t1 && t2 && t3) t4 H
+  nw : Units w
+  nw = units-of w (he .3) (finite-abs w (parts-finite .1))
 
-  -- the length
+  ends : Extent r
+  ends = extent r hr (factors-finite .0)
+
+  abbrev γ : ℕ
+  γ = ends .units
+
+  -- ---- the size and the error
+
+  sx : Rounded (x ⊗ x) false unit (nx .size * nx .size) unit
+  sx = product-like (nx .is) (nx .is) (two-finite .0)
+
+  sy : Rounded (y ⊗ y) false unit (ny .size * ny .size) unit
+  sy = product-like (ny .is) (ny .is) (two-finite .1)
+
+  sz : Rounded (z ⊗ z) false unit (nz .size * nz .size) unit
+  sz = product-like (nz .is) (nz .is) (squares-finite .1)
+
+  two : Rounded (x ⊗ x ⊕ y ⊗ y) false 1 (sx .units + sy .units) 1
+  two = sum-like (sx .is) (sy .is) (squares-finite .0)
+
+  square : Rounded q false 1 (two .units + sz .units) 1
+  square = sum-like (two .is) (sz .is) square-finite
+
+  factor : Rounded (rounded 3 1 ⊕ q) false 1 (3 * unit + square .units) 1
+  factor = sum-like (figures .three-is) (square .is) (factors-finite .1)
+
+  scaled : Rounded (extentOf r ⊗ (rounded 3 1 ⊕ q)) false unit (γ * factor .units) unit
+  scaled = product-like (ends .is) (factor .is) (parts-finite .0)
+
+  total : Rounded size false 1 (scaled .units + nw .size) 1
+  total = sum-like (scaled .is) (abs-is (nw .is)) size-finite
+
+  abbrev α : ℕ
+  α = total .units
+
+  total-most : α ≤ 2 ^ 300 * unit
+  total-most = under mostSize (total .is) (figures .most-is) (tests .4) (figures .most-most)
+
+  total-least : 2 ^ 774 ≤ α
+  total-least = over leastSize (figures .least-is) (total .is) (figures .least-least) (tests .3)
+
+  error : Rounded (errorOf size) false unit (α * part-units) unit
+  error = product (total .is) (figures .part-is) (room-for (2 ^ 300) 1 α part-units total-most (le-trans (figures .part-most) (omega arith)) (figures .error-room))
+
+  abbrev μ : ℕ
+  μ = error .units
+
+  extent-most : γ ≤ far * unit
+  extent-most = under long (ends .is) (figures .far-is) (tests .0) (figures .long-most)
+
+  square-bounds : (g : ℕ) → Is q false g → (2 ^ 1012 ≤ g) × (g ≤ far * far * unit)
+  square-bounds g h = (
+    over (short ⊗ short) (figures .short-square-is) h (figures .short-square-least) (tests .1),
+    under (long ⊗ long) h (figures .far-square-is) (tests .2) (figures .long-square-most),
+  )
+
+  abbrev s : ℕ
+  s = nx .size + ny .size + nz .size
+
+  three-most : s ≤ 3 * unit + 2 * square .units + 16
+  three-most =
+      normals unit (nx .size) (ny .size) (nz .size) (sx .units) (sy .units) (sz .units) (square .units) (two .units) unit-positive (least-of _ _ unit (sx .near)) (least-of _ _ unit (sy .near)) (least-of _ _ unit (sz .near))
+      (least-of _ _ 1 (two .near)) (least-of _ _ 1 (square .near))
+
+  bounds : Sizes unit s γ (nw .size) α μ (far * far)
+  bounds =
+      sizes unit s (square .units) (factor .units) γ (scaled .units) (nw .size) α part-units μ far (far * far) unit-positive three-most (least-of _ _ 1 (factor .near)) (least-of _ _ unit (scaled .near))
+      (least-of _ _ 1 (total .near)) (least-of _ _ unit (error .near)) (most-of _ _ unit (error .near)) (square-bounds (square .units) (square .is) .1) extent-most (figures .part-least) (figures .part-most) (le-trans (figures .least-size) total-least)
+
+  -- ---- the length
+
   abbrev L : Float
   L = sqrtOf binary64 q
 
-  length : (l : ℕ) × HasValue L false l unit × (0 < l) × (unit ≤ bound * l) × (l ≤ bound * unit) × T (le minLength L) × T (positive L)
-  length = length-held q (add-fits binary64 (x ⊗ x ⊕ y ⊗ y) (z ⊗ z)) above under
+  root : Root q
+  root = root-of q (add-fits binary64 (x ⊗ x ⊕ y ⊗ y) (z ⊗ z)) (positive-of-value q (square .units) unit (is-value (square .is)) (le-trans (lit≤ tt) (square-bounds (square .units) (square .is) .0)))
 
   abbrev l : ℕ
-  l = length .0
+  l = root .root
+
+  root-over : 2 ^ 1043 ≤ l
+  root-over = root .over (down-to 30) (2 ^ 1043) (unfold fits in tt) (figures .min-length-is) (le-trans (figures .root-least) (mul-le-mul-right unit (square-bounds (root .square) (root .is) .0)))
+
+  unit-most : unit ≤ 2 ^ 31 * l
+  unit-most = le-trans (figures .length-least) (mul-le-mul-left (2 ^ 31) root-over)
+
+  length-most : l ≤ far * unit
+  length-most = root .under (up-to 60) (far * unit) (unfold fits in tt) (figures .far-is) (go unit (root .square) (square-bounds (root .square) (root .is) .1))
+    where
+      go : (u g : ℕ) → g ≤ far * far * u → g * u ≤ far * u * (far * u)
+      go u g h = omega (arith, mul-le-mul-right u h)
+
+  length-some : 0 < l
+  length-some = le-trans (lit≤ tt) root-over
+
+  least-length : T (le minLength L)
+  least-length = le-through minLength (down-to 30) L (figures .min-length-most) (at-most (figures .min-length-is) (root .root-is) root-over)
 
   -- one over it
   abbrev k : Float
   k = one ⊘ L
 
-  room-of : unit ≤ room * l
-  room-of =
-      let g = grow bound bound bound-positive in
-      let g2 = grow (bound * bound) bound bound-positive in
-      let g3 = grow (bound * bound * bound) bound bound-positive in
-      le-trans (length .3) (mul-le-mul-right l (le-trans (omega (arith, g, g2, g3)) many))
+  over-length : Rounded k false l (unit * unit) l
+  over-length = quotient (figures .one-is) (root .root-is) length-some (le-trans unit-most (mul-le-mul-right l (figures .over-room)))
 
-  over : (g : ℕ) × HasValue k false g unit × (2 ^ 53 * (g * l) ≤ 2 ^ 53 * (unit * unit) + unit * unit + 2 ^ 53 * l) × (2 ^ 53 * (unit * unit) ≤ 2 ^ 53 * (g * l) + unit * unit + 2 ^ 53 * l)
-  over = div-error one L false unit l (length .2) one-held (length .1) room-of
+  -- ---- the measure of the errors
 
-  -- the numbers of the range
-  bounds : (g : ℕ) × HasValue extent false g unit × (g ≤ bound * unit) × Within g (r .min .x) × Within g (r .min .y) × Within g (r .min .z) × Within g (r .max .x) × Within g (r .max .y) × Within g (r .max .z)
-  bounds = extent-held (r .min .x) (r .min .y) (r .min .z) (r .max .x) (r .max .y) (r .max .z) (hr .0) (hr .1) (hr .2) (hr .3) (hr .4) (hr .5) near
+  abbrev ε : ℕ
+  ε = parts μ .0
 
-  abbrev γ : ℕ
-  γ = bounds .0
+  error-over : (c : ℕ) → 2 ^ 39 * c ≤ 2 ^ 774 → c ≤ μ
+  error-over c h = le-of-mul-le-mul-left {k = 2 ^ 39} (le-trans h (le-trans total-least (bounds .error-least))) (lit≤ tt)
 
-  numbers : Bounded x × Bounded y × Bounded z
-  numbers = numbers-held x y z (he .0) (he .1) (he .2) under
+  slack : 8 * ((Normal + 1) * (End + 1)) * l ≤ ε
+  slack = go unit ε (error-over (1024 * ((Normal + 1) * (End + 1)) * far) (figures .error-size)) (parts μ .1) length-most
+    where
+      go : (u ε : ℕ) → 1024 * ((Normal + 1) * (End + 1)) * far ≤ μ → 128 * ε ≡ μ * u → l ≤ far * u → 8 * ((Normal + 1) * (End + 1)) * l ≤ ε
+      go u ε h e k = omega (arith, mul-le-mul-right u h, e, mul-le-mul-left ((Normal + 1) * (End + 1)) k)
 
-  -- the terms
-  abbrev tx : Float
-  tx = x ⊗ endToward x (r .min .x) (r .max .x)
+  length-error : l ≤ ε
+  length-error = le-trans (omega arith) slack
 
-  abbrev ty : Float
-  ty = y ⊗ endToward y (r .min .y) (r .max .y)
+  unit-error : unit ≤ ε
+  unit-error = go unit ε (error-over 128 (lit≤ tt)) (parts μ .1)
+    where
+      go : (u ε : ℕ) → 128 ≤ μ → 128 * ε ≡ μ * u → u ≤ ε
+      go u ε h e = omega (arith, mul-le-mul-right u h, e)
 
-  abbrev tz : Float
-  tz = z ⊗ endToward z (r .min .z) (r .max .z)
+  exact-most : s * (2 * γ + 20) + nw .size * unit ≤ 2 ^ 53 * ε
+  exact-most = omega (arith, bounds .held, parts μ .1)
 
-  abbrev Px : Float
-  Px = x ⊗ k ⊗ endToward (x ⊗ k) (r .min .x) (r .max .x)
+  error-most : μ ≤ 3 * 2 ^ 300 * unit
+  error-most = go unit (2 ^ 300) (bounds .error-most) total-most
+    where
+      go : (u c : ℕ) → μ ≤ 3 * α → α ≤ c * u → μ ≤ 3 * c * u
+      go u c h k = omega (arith, h, k)
 
-  abbrev Py : Float
-  Py = y ⊗ k ⊗ endToward (y ⊗ k) (r .min .y) (r .max .y)
+  -- ---- the terms
 
-  abbrev Pz : Float
-  Pz = z ⊗ k ⊗ endToward (z ⊗ k) (r .min .z) (r .max .z)
+  abbrev ext : ℕ
+  ext = 2 * γ + 20
 
-  X : Axis l (numbers .0 .1 * γ) Px tx
-  X = axis l (over .0) γ k (length .2) (length .4) (length .3) (bounds .2) (over .1) (over .2, over .3) x (r .min .x) (r .max .x) (numbers .0) (bounds .3) (bounds .6)
+  end-most : ext ≤ End * unit
+  end-most = omega (arith, extent-most, unit-positive)
 
-  Y : Axis l (numbers .1 .1 * γ) Py ty
-  Y = axis l (over .0) γ k (length .2) (length .4) (length .3) (bounds .2) (over .1) (over .2, over .3) y (r .min .y) (r .max .y) (numbers .1) (bounds .4) (bounds .7)
+  along : (n low high : Float) (N : Units n) → N .size ≤ s → Within ext low → Within ext high → Axis l ε (N .size * ext) (n ⊗ k ⊗ endToward (n ⊗ k) low high) (n ⊗ endToward n low high)
+  along n low high N h a b =
+      axis l ε ext k over-length unit-most length-some end-most slack unit-error n N (le-trans h (bounds .normal-most)) (le-trans (mul-le-mul-right ext h) (le-trans (omega arith) exact-most)) low high a b
 
-  Z : Axis l (numbers .2 .1 * γ) Pz tz
-  Z = axis l (over .0) γ k (length .2) (length .4) (length .3) (bounds .2) (over .1) (over .2, over .3) z (r .min .z) (r .max .z) (numbers .2) (bounds .5) (bounds .8)
+  tx : Axis l ε (nx .size * ext) (x ⊗ k ⊗ endToward (x ⊗ k) (r .min .x) (r .max .x)) (x ⊗ endToward x (r .min .x) (r .max .x))
+  tx = along x (r .min .x) (r .max .x) nx (omega arith) (ends .min-x) (ends .max-x)
+
+  ty : Axis l ε (ny .size * ext) (y ⊗ k ⊗ endToward (y ⊗ k) (r .min .y) (r .max .y)) (y ⊗ endToward y (r .min .y) (r .max .y))
+  ty = along y (r .min .y) (r .max .y) ny (omega arith) (ends .min-y) (ends .max-y)
+
+  tz : Axis l ε (nz .size * ext) (z ⊗ k ⊗ endToward (z ⊗ k) (r .min .z) (r .max .z)) (z ⊗ endToward z (r .min .z) (r .max .z))
+  tz = along z (r .min .z) (r .max .z) nz (omega arith) (ends .min-z) (ends .max-z)
 
   -- ---- the sums
 
-  abbrev m : ℕ
-  m = X .m + Y .m + Z .m
-
   abbrev M : ℕ
-  M = over-zero (X .t-sign) (X .m) + over-zero (Y .t-sign) (Y .m) + over-zero (Z .t-sign) (Z .m)
+  M = over-zero (tx .sign) (tx .exact) + over-zero (ty .sign) (ty .exact) + over-zero (tz .sign) (tz .exact)
 
   abbrev M' : ℕ
-  M' = under-zero (X .t-sign) (X .m) + under-zero (Y .t-sign) (Y .m) + under-zero (Z .t-sign) (Z .m)
-
-  -- the reach
-  abbrev R : Float
-  R = Px ⊕ Py ⊕ Pz
-
-  reach : (u : Bool) × (g : ℕ) × HasValue R u g unit
-      × (4 * f * (over-zero u g + (under-zero (X .P-sign) (X .p) + under-zero (Y .P-sign) (Y .p) + under-zero (Z .P-sign) (Z .p)))
-      ≤ 4 * f * (under-zero u g + (over-zero (X .P-sign) (X .p) + over-zero (Y .P-sign) (Y .p) + over-zero (Z .P-sign) (Z .p))) + (X .p + Y .p + Z .p) + (8 * f + 1))
-      × (4 * f * (under-zero u g + (over-zero (X .P-sign) (X .p) + over-zero (Y .P-sign) (Y .p) + over-zero (Z .P-sign) (Z .p)))
-      ≤ 4 * f * (over-zero u g + (under-zero (X .P-sign) (X .p) + under-zero (Y .P-sign) (Y .p) + under-zero (Z .P-sign) (Z .p))) + (X .p + Y .p + Z .p) + (8 * f + 1))
-      × (g ≤ 4 * (X .p + Y .p + Z .p) + 6)
-  reach =
-      three Px Py Pz (X .P-sign) (Y .P-sign) (Z .P-sign) (X .p) (Y .p) (Z .p) (X .P-is) (Y .P-is) (Z .P-is)
-      (le-trans (room-three bound unit (X .p) (Y .p) (Z .p) bound-positive unit-positive (X .p-room) (Y .p-room) (Z .p-room)) (mul-le-mul-right unit many))
-    where
-      room-three : (b u a c d : ℕ) → 0 < b → 0 < u → a ≤ 16 * (b * b * b) * u → c ≤ 16 * (b * b * b) * u → d ≤ 16 * (b * b * b) * u → 4 * (a + c + d) + 8 ≤ 1024 * (b * b * b * b) * u
-      room-three b u a c d p q h k l = omega (arith, h, k, l, q, grow u b p, grow (u * b) b p, grow (u * b * b) b p, grow (u * b * b * b) b p)
-
-  abbrev r0 : ℕ
-  r0 = over-zero (reach .0) (reach .1)
-
-  abbrev r1 : ℕ
-  r1 = under-zero (reach .0) (reach .1)
-
-  length-slack : (b u l : ℕ) → 0 < b → l ≤ b * u → (8 * f + 1) * l ≤ 4 * (2 * (16 * f * (b * b + b) * u))
-  length-slack b u l p h = omega (arith, h, grow (u * b) b p)
-
-  reach-close : (f * (r0 * l + M') ≤ f * (r1 * l + M) + (2 * m + 5 * slack)) × (f * (r1 * l + M) ≤ f * (r0 * l + M') + (2 * m + 5 * slack))
-  reach-close =
-      let px = over-zero (X .P-sign) (X .p) in
-      let py = over-zero (Y .P-sign) (Y .p) in
-      let pz = over-zero (Z .P-sign) (Z .p) in
-      let qx = under-zero (X .P-sign) (X .p) in
-      let qy = under-zero (Y .P-sign) (Y .p) in
-      let qz = under-zero (Z .P-sign) (Z .p) in
-      let mx = over-zero (X .t-sign) (X .m) in
-      let my = over-zero (Y .t-sign) (Y .m) in
-      let mz = over-zero (Z .t-sign) (Z .m) in
-      let nx = under-zero (X .t-sign) (X .m) in
-      let ny = under-zero (Y .t-sign) (Y .m) in
-      let nz = under-zero (Z .t-sign) (Z .m) in
-      let size : (X .p + Y .p + Z .p) * l ≤ 2 * m + 3 * slack = omega (arith, X .most, Y .most, Z .most) in
-      let rest : (8 * f + 1) * l ≤ 4 * slack = length-slack bound unit l bound-positive (length .4) in (
-        to-close f (r0 * l) (r1 * l) (px * l + py * l + pz * l) (qx * l + qy * l + qz * l) M M' m slack ((8 * f + 1) * l) ((X .p + Y .p + Z .p) * l)
-            (times-three f r0 r1 qx qy qz px py pz (X .p + Y .p + Z .p) (8 * f + 1) l (reach .3))
-            (three-near f (px * l) (qx * l) mx nx (X .m) (py * l) (qy * l) my ny (Y .m) (pz * l) (qz * l) mz nz (Z .m) slack (X .near) (Y .near) (Z .near)) size rest,
-        to-close f (r1 * l) (r0 * l) (qx * l + qy * l + qz * l) (px * l + py * l + pz * l) M' M m slack ((8 * f + 1) * l) ((X .p + Y .p + Z .p) * l)
-            (times-three f r1 r0 px py pz qx qy qz (X .p + Y .p + Z .p) (8 * f + 1) l (reach .4))
-            (three-near f (qx * l) (px * l) nx mx (X .m) (qy * l) (py * l) ny my (Y .m) (qz * l) (pz * l) nz mz (Z .m) slack (X .near-back) (Y .near-back) (Z .near-back)) size rest,
-      )
-
-  -- the squares, their sum, that and 3, and the same times the extent
-  same-sign : (s : Bool) → unlike s s ≡ false
-  same-sign false = refl
-  same-sign true = refl
-
-  square : (v : Float) (h : Bounded v) → (g : ℕ) × HasValue (v ⊗ v) false g unit × (h .1 * h .1 ≤ 2 * (g * unit) + 2 * unit) × (g ≤ 3 * (bound * bound) * unit)
-  square v (s, a, A, AU) =
-      let (g, G, lo, hi) = mul-error v v s s a a A A (le-trans (omega (arith, mul-le-mul AU AU, twice (unit * unit))) (mul-le-mul-right (unit * unit) many)) in (
-        g,
-        subst (λ (t : Bool). HasValue (v ⊗ v) t g unit) (same-sign s) G,
-        exact-size f unit g (a * a) (omega arith) (lo, hi),
-        omega (arith, product-size (16 * f) unit (bound * bound) (a * a) g (omega arith) unit-positive least-unit (omega (arith, mul-le-mul AU AU)) (lo, hi), mul-le-mul-right unit (mul-le-mul bound-positive bound-positive)),
-      )
-    where
-      twice : (x : ℕ) → bound * bound * x ≤ 1024 * (bound * bound * bound * bound) * x
-      twice x = omega (arith, grow (bound * bound * x) bound bound-positive, grow (bound * bound * x * bound) bound bound-positive)
-
-  SX : (g : ℕ) × HasValue (x ⊗ x) false g unit × (numbers .0 .1 * numbers .0 .1 ≤ 2 * (g * unit) + 2 * unit) × (g ≤ 3 * (bound * bound) * unit)
-  SX = square x (numbers .0)
-
-  SY : (g : ℕ) × HasValue (y ⊗ y) false g unit × (numbers .1 .1 * numbers .1 .1 ≤ 2 * (g * unit) + 2 * unit) × (g ≤ 3 * (bound * bound) * unit)
-  SY = square y (numbers .1)
-
-  SZ : (g : ℕ) × HasValue (z ⊗ z) false g unit × (numbers .2 .1 * numbers .2 .1 ≤ 2 * (g * unit) + 2 * unit) × (g ≤ 3 * (bound * bound) * unit)
-  SZ = square z (numbers .2)
-
-  squares : (g : ℕ) × HasValue q false g unit × (SX .0 + SY .0 + SZ .0 ≤ 4 * g + 8) × (g ≤ 4 * (SX .0 + SY .0 + SZ .0) + 6)
-  squares =
-      positive-three (x ⊗ x) (y ⊗ y) (z ⊗ z) (SX .0) (SY .0) (SZ .0) (SX .1) (SY .1) (SZ .1)
-      (le-trans (room-squares bound unit (SX .0) (SY .0) (SZ .0) bound-positive unit-positive (SX .3) (SY .3) (SZ .3)) (mul-le-mul-right unit many))
-    where
-      room-squares : (b u a c d : ℕ) → 0 < b → 0 < u → a ≤ 3 * (b * b) * u → c ≤ 3 * (b * b) * u → d ≤ 3 * (b * b) * u → 4 * (a + c + d) + 8 ≤ 1024 * (b * b * b * b) * u
-      room-squares b u a c d p t h i j = omega (arith, h, i, j, t, grow u b p, grow (u * b) b p, grow (u * b * b) b p, grow (u * b * b * b) b p)
-
-  squares-room : squares .0 ≤ 42 * (bound * bound) * unit
-  squares-room = go bound unit (SX .0) (SY .0) (SZ .0) (squares .0) bound-positive unit-positive (SX .3) (SY .3) (SZ .3) (squares .3)
-    where
-      go : (b u a c d g : ℕ) → 0 < b → 0 < u → a ≤ 3 * (b * b) * u → c ≤ 3 * (b * b) * u → d ≤ 3 * (b * b) * u → g ≤ 4 * (a + c + d) + 6 → g ≤ 42 * (b * b) * u
-      go b u a c d g p t h i j k = omega (arith, h, i, j, k, t, grow u b p, grow (u * b) b p)
-
-  factor : (g : ℕ) × HasValue (rounded 3 1 ⊕ q) false g unit × (3 * unit + squares .0 ≤ 2 * g + 2) × (g ≤ 2 * (3 * unit + squares .0) + 2)
-  factor = positive-two (rounded 3 1) q (3 * unit) (squares .0) three-held (squares .1) (le-trans (go bound unit (squares .0) bound-positive squares-room) (mul-le-mul-right unit many))
-    where
-      go : (b u g : ℕ) → 0 < b → g ≤ 42 * (b * b) * u → 3 * u + g ≤ 1024 * (b * b * b * b) * u
-      go b u g p h = omega (arith, h, grow u b p, grow (u * b) b p, grow (u * b * b) b p, grow (u * b * b * b) b p)
-
-  factor-room : factor .0 ≤ 92 * (bound * bound) * unit
-  factor-room = go bound unit (squares .0) (factor .0) bound-positive unit-positive squares-room (factor .3)
-    where
-      go : (b u g h : ℕ) → 0 < b → 0 < u → g ≤ 42 * (b * b) * u → h ≤ 2 * (3 * u + g) + 2 → h ≤ 92 * (b * b) * u
-      go b u g h p t i j = omega (arith, i, j, t, grow u b p, grow (u * b) b p)
-
-  scaled : (g : ℕ) × HasValue (extent ⊗ (rounded 3 1 ⊕ q)) false g unit × (γ * factor .0 ≤ 2 * (g * unit) + 2 * unit) × (g ≤ 185 * (bound * bound * bound) * unit)
-  scaled =
-      let top = mul-le-mul (bounds .2) factor-room in
-      let (g, G, lo, hi) = mul-error extent (rounded 3 1 ⊕ q) false false γ (factor .0) (bounds .1) (factor .1) (le-trans (omega (arith, top, grow (bound * bound * bound * (unit * unit)) bound bound-positive)) (mul-le-mul-right (unit * unit) many)) in (
-        g,
-        G,
-        exact-size f unit g (γ * factor .0) (omega arith) (lo, hi),
-        omega (arith, product-size (16 * f) unit (92 * (bound * bound * bound)) (γ * factor .0) g (omega arith) unit-positive least-unit (omega (arith, top)) (lo, hi), mul-le-mul-right unit (mul-le-mul (mul-le-mul bound-positive bound-positive) bound-positive)),
-      )
-
-  -- the equation's last number
-  small-room : (b u a c d : ℕ) → 0 < b → 0 < u → a ≤ 4 * (b * b) * u → c ≤ 4 * (b * b) * u → d ≤ 4 * (b * b) * u → 4 * (a + c + d) + 8 ≤ 512 * (b * b * b * b) * u
-  small-room b u a c d p q h k l = omega (arith, h, k, l, q, grow u b p, grow (u * b) b p, grow (u * b * b) b p, grow (u * b * b * b) b p)
-
-  sizes-room : 4 * (X .size + Y .size + Z .size) + 8 ≤ 512 * (bound * bound * bound * bound) * unit
-  sizes-room = small-room bound unit (X .size) (Y .size) (Z .size) bound-positive unit-positive (X .size-room) (Y .size-room) (Z .size-room)
-
-  last : (s : Bool) × (a : ℕ) × HasValue w s a unit × (a ≤ bound * bound * bound * bound * bound * unit)
-  last = rest-held (extent ⊗ (rounded 3 1 ⊕ q)) w (scaled .0) (scaled .1) (he .3) bounded
-
-  abbrev sw : Bool
-  sw = last .0
+  M' = under-zero (tx .sign) (tx .exact) + under-zero (ty .sign) (ty .exact) + under-zero (tz .sign) (tz .exact)
 
   abbrev o : ℕ
-  o = last .1
+  o = nw .size * unit
 
   abbrev G : ℕ
-  G = over-zero sw o * unit
+  G = over-zero (nw .sign) o
 
   abbrev G' : ℕ
-  G' = under-zero sw o * unit
+  G' = under-zero (nw .sign) o
 
-  all-room : 4 * (X .size + Y .size + Z .size) + 8 + o ≤ room * unit
-  all-room = le-trans (more bound unit (4 * (X .size + Y .size + Z .size) + 8) o bound-positive sizes-room (last .3)) (mul-le-mul-right unit bound-room)
-    where
-      more : (b u a c : ℕ) → 0 < b → a ≤ 512 * (b * b * b * b) * u → c ≤ b * b * b * b * b * u → a + c ≤ 1024 * (b * b * b * b * b * b * b * b) * u
-      more b u a c p h j =
-          let g4 = grow (b * b * b * b * u) b p in
-          let g5 = grow (b * b * b * b * u * b) b p in
-          let g6 = grow (b * b * b * b * u * b * b) b p in
-          let g7 = grow (b * b * b * b * u * b * b * b) b p in
-          omega (arith, h, j, g4, g5, g6, g7)
+  sizes-held : M + M' + (G + G') ≤ 2 ^ 53 * ε
+  sizes-held =
+      omega (arith, both-sides (tx .sign) (tx .exact), both-sides (ty .sign) (ty .exact), both-sides (tz .sign) (tz .exact), both-sides (nw .sign) o, tx .most, ty .most, tz .most, exact-most)
 
-  -- ---- the estimate
+  by-length : Scale l ε
+  by-length = record { some = length-some; few = length-error; held = rooms unit ε μ l (2 ^ 31) (3 * 2 ^ 300) room (parts μ .1) error-most unit-most (figures .length-room) }
 
+  by-unit : Scale unit ε
+  by-unit = record { some = unit-positive; few = unit-error; held = rooms unit ε μ unit 1 (3 * 2 ^ 300) room (parts μ .1) error-most (omega arith) (figures .unit-room) }
+
+  -- the reach, times the length
+  abbrev R : Float
+  R = x ⊗ k ⊗ endToward (x ⊗ k) (r .min .x) (r .max .x) ⊕ y ⊗ k ⊗ endToward (y ⊗ k) (r .min .y) (r .max .y) ⊕ z ⊗ k ⊗ endToward (z ⊗ k) (r .min .z) (r .max .z)
+
+  reach : About l ε R M M' 30
+  reach = add by-length (add by-length (tx .reach) (ty .reach) (omega (arith, sizes-held)) (lit≤ tt)) (tz .reach) (omega (arith, sizes-held)) (lit≤ tt)
+
+  -- the estimate
   abbrev S : Float
-  S = tx ⊕ ty ⊕ tz ⊕ w
+  S = x ⊗ endToward x (r .min .x) (r .max .x) ⊕ y ⊗ endToward y (r .min .y) (r .max .y) ⊕ z ⊗ endToward z (r .min .z) (r .max .z) ⊕ w
 
-  estimate : (u : Bool) × (g : ℕ) × HasValue S u g unit
-      × (2 * f * (over-zero u g + (under-zero (X .t-sign) (X .size) + under-zero (Y .t-sign) (Y .size) + under-zero (Z .t-sign) (Z .size) + under-zero sw o))
-      ≤ 2 * f * (under-zero u g + (over-zero (X .t-sign) (X .size) + over-zero (Y .t-sign) (Y .size) + over-zero (Z .t-sign) (Z .size) + over-zero sw o)) + (X .size + Y .size + Z .size + o) + (6 * f + 2))
-      × (2 * f * (under-zero u g + (over-zero (X .t-sign) (X .size) + over-zero (Y .t-sign) (Y .size) + over-zero (Z .t-sign) (Z .size) + over-zero sw o))
-      ≤ 2 * f * (over-zero u g + (under-zero (X .t-sign) (X .size) + under-zero (Y .t-sign) (Y .size) + under-zero (Z .t-sign) (Z .size) + under-zero sw o)) + (X .size + Y .size + Z .size + o) + (6 * f + 2))
-      × (g ≤ 8 * (X .size + Y .size + Z .size + o) + 16)
-  estimate = four tx ty tz (X .t-sign) (Y .t-sign) (Z .t-sign) (X .size) (Y .size) (Z .size) (X .t-is) (Y .t-is) (Z .t-is) w sw o (last .2) all-room
+  estimate : About unit ε S (M + G) (M' + G') 15
+  estimate =
+      let three = add by-unit (add by-unit (tx .estimate) (ty .estimate) (omega (arith, sizes-held)) (lit≤ tt)) (tz .estimate) (omega (arith, sizes-held)) (lit≤ tt) in
+      add by-unit three (about {n = 0} o (nw .is) (omega arith)) (omega (arith, sizes-held)) (lit≤ tt)
 
-  abbrev s0 : ℕ
-  s0 = over-zero (estimate .0) (estimate .1)
-
-  abbrev s1 : ℕ
-  s1 = under-zero (estimate .0) (estimate .1)
-
-  -- a term of it is close to its product, with its sign
-  term-close : (t : Bool) (h p : ℕ) → Close (16 * f) (h * unit) p (16 * f * unit)
-      → (f * (over-zero t h * unit + under-zero t p) ≤ f * (under-zero t h * unit + over-zero t p) + p + slack) × (f * (under-zero t h * unit + over-zero t p) ≤ f * (over-zero t h * unit + under-zero t p) + p + slack)
-  term-close t h p c =
-      let (a, b) = signed t h p (16 * f * unit) unit (sixteenth f (h * unit) p (16 * f * unit) c) in
-      let k = unit-slack bound unit bound-positive in
-      (omega (arith, a, k), omega (arith, b, k))
-
-  unit-rest : (b u : ℕ) → 0 < b → (6 * f + 2) * u ≤ 2 * (16 * f * (b * b + b) * u)
-  unit-rest b u p = omega (arith, grow u b p, grow (u * b) b p)
-
-  estimate-close : (f * (s0 * unit + (M' + G')) ≤ f * (s1 * unit + (M + G)) + (2 * m + o * unit + 5 * slack)) × (f * (s1 * unit + (M + G)) ≤ f * (s0 * unit + (M' + G')) + (2 * m + o * unit + 5 * slack))
-  estimate-close =
-      let px = over-zero (X .t-sign) (X .size) in
-      let py = over-zero (Y .t-sign) (Y .size) in
-      let pz = over-zero (Z .t-sign) (Z .size) in
-      let qx = under-zero (X .t-sign) (X .size) in
-      let qy = under-zero (Y .t-sign) (Y .size) in
-      let qz = under-zero (Z .t-sign) (Z .size) in
-      let mx = over-zero (X .t-sign) (X .m) in
-      let my = over-zero (Y .t-sign) (Y .m) in
-      let mz = over-zero (Z .t-sign) (Z .m) in
-      let nx = under-zero (X .t-sign) (X .m) in
-      let ny = under-zero (Y .t-sign) (Y .m) in
-      let nz = under-zero (Z .t-sign) (Z .m) in
-      let cx = term-close (X .t-sign) (X .size) (X .m) (X .close) in
-      let cy = term-close (Y .t-sign) (Y .size) (Y .m) (Y .close) in
-      let cz = term-close (Z .t-sign) (Z .size) (Z .m) (Z .close) in
-      let ax = at-most (16 * f) (X .size * unit) (X .m) (16 * f * unit) (omega arith) (X .close) in
-      let ay = at-most (16 * f) (Y .size * unit) (Y .m) (16 * f * unit) (omega arith) (Y .close) in
-      let az = at-most (16 * f) (Z .size * unit) (Z .m) (16 * f * unit) (omega arith) (Z .close) in
-      let size : (X .size + Y .size + Z .size) * unit ≤ 2 * m + 3 * slack = omega (arith, ax, ay, az, sixteen-slack bound unit bound-positive) in
-      let rest : (6 * f + 2) * unit ≤ slack = unit-rest bound unit bound-positive in (
-        to-close-four f (s0 * unit) (s1 * unit) (px * unit + py * unit + pz * unit) (qx * unit + qy * unit + qz * unit) M M' G G' m slack ((6 * f + 2) * unit) ((X .size + Y .size + Z .size) * unit) (o * unit)
-            (times-four f s0 s1 qx qy qz (under-zero sw o) px py pz (over-zero sw o) (X .size + Y .size + Z .size) o (6 * f + 2) unit (estimate .3))
-            (three-near f (px * unit) (qx * unit) mx nx (X .m) (py * unit) (qy * unit) my ny (Y .m) (pz * unit) (qz * unit) mz nz (Z .m) slack (cx .0) (cy .0) (cz .0)) size rest,
-        to-close-four f (s1 * unit) (s0 * unit) (qx * unit + qy * unit + qz * unit) (px * unit + py * unit + pz * unit) M' M G' G m slack ((6 * f + 2) * unit) ((X .size + Y .size + Z .size) * unit) (o * unit)
-            (times-four f s1 s0 px py pz (over-zero sw o) qx qy qz (under-zero sw o) (X .size + Y .size + Z .size) o (6 * f + 2) unit (estimate .4))
-            (three-near f (qx * unit) (px * unit) nx mx (X .m) (qy * unit) (py * unit) ny my (Y .m) (qz * unit) (pz * unit) nz mz (Z .m) slack (cx .1) (cy .1) (cz .1)) size rest,
-      )
-    where
-      sixteen-slack : (b u : ℕ) → 0 < b → 16 * f * u ≤ 2 * (16 * f * (b * b + b) * u)
-      sixteen-slack b u p = omega (arith, grow u b p, grow (u * b) b p)
-
-  -- ---- the distance
-
+  -- the distance, times the length
   abbrev D : Float
   D = neg w ⊘ L
 
-  distance : (g : ℕ) × HasValue D (not sw) g unit × (2 ^ 53 * (g * l) ≤ 2 ^ 53 * (o * unit) + o * unit + 2 ^ 53 * l) × (2 ^ 53 * (o * unit) ≤ 2 ^ 53 * (g * l) + o * unit + 2 ^ 53 * l)
-  distance =
-      div-error (neg w) L (not sw) o l (length .2) (neg-held w sw o (last .2)) (length .1)
-      (le-trans (last .3) (le-trans (six bound unit l bound-positive (length .3)) (mul-le-mul-right l bound-room)))
+  distance : About l ε D G' G 2
+  distance = rw (turned (nw .sign) .0, turned (nw .sign) .1) at (rounded-about (quotient (neg-is (nw .is)) (root .root-is) length-some last-most) (omega (arith, both-sides (nw .sign) o, sizes-held)) length-error)
     where
-      six : (b u l : ℕ) → 0 < b → u ≤ b * l → b * b * b * b * b * u ≤ 1024 * (b * b * b * b * b * b * b * b) * l
-      six b u l p h =
-          let g6 = grow (b * b * b * b * b * b * l) b p in
-          let g7 = grow (b * b * b * b * b * b * l * b) b p in
-          omega (arith, mul-le-mul-right (b * b * b * b * b) h, g6, g7)
+      turned : (s : Bool) → (over-zero (not s) o ≡ under-zero s o) × (under-zero (not s) o ≡ over-zero s o)
+      turned false = (refl, refl)
+      turned true = (refl, refl)
 
-  abbrev d0 : ℕ
-  d0 = over-zero (not sw) (distance .0)
+      go : (u c n : ℕ) → n ≤ 3 * α → α ≤ c * u → u ≤ 2 ^ 31 * l → 3 * c * 2 ^ 31 ≤ room → n ≤ room * l
+      go u c n h k g i = omega (arith, h, k, mul-le-mul-right (3 * c) g, mul-le-mul-right l i)
 
-  abbrev d1 : ℕ
-  d1 = under-zero (not sw) (distance .0)
-
-  turned : (s : Bool) (g : ℕ) → Close f (g * l) (o * unit) slack
-      → (f * (over-zero (not s) g * l + over-zero s o * unit) ≤ f * (under-zero (not s) g * l + under-zero s o * unit) + (o * unit + slack))
-      × (f * (under-zero (not s) g * l + under-zero s o * unit) ≤ f * (over-zero (not s) g * l + over-zero s o * unit) + (o * unit + slack))
-  turned false g (a, b) = (omega (arith, b), omega (arith, a))
-  turned true g (a, b) = (omega (arith, a), omega (arith, b))
-
-  distance-close : (f * (d0 * l + G) ≤ f * (d1 * l + G') + (o * unit + slack)) × (f * (d1 * l + G') ≤ f * (d0 * l + G) + (o * unit + slack))
-  distance-close = turned sw (distance .0) (weaker (distance .0 * l) (o * unit) (16 * f * l) slack (sixteenth f (distance .0 * l) (o * unit) (16 * f * l) (distance .2, distance .3)) (long-slack bound unit l bound-positive (length .4)))
-    where
-      long-slack : (b u l : ℕ) → 0 < b → l ≤ b * u → 16 * f * l ≤ 2 * (16 * f * (b * b + b) * u)
-      long-slack b u l p h = omega (arith, h, grow (u * b) b p)
-
-      weaker : (x y t s : ℕ) → Close f x y t → t ≤ s → Close f x y s
-      weaker x y t s (a, b) h = (omega (arith, a, h), omega (arith, b, h))
-
-  -- ---- the size and the error
-
-  total : (g : ℕ) × HasValue size false g unit × (scaled .0 + o ≤ 2 * g + 2) × (g ≤ 2 * (scaled .0 + o) + 2)
-  total =
-      positive-two (extent ⊗ (rounded 3 1 ⊕ q)) (absOf w) (scaled .0) o (scaled .1) (abs-held w sw o (last .2))
-      (le-trans (go bound unit (scaled .0) o bound-positive (scaled .3) (last .3)) (mul-le-mul-right unit bound-room))
-    where
-      go : (b u g o : ℕ) → 0 < b → g ≤ 185 * (b * b * b) * u → o ≤ b * b * b * b * b * u → g + o ≤ 1024 * (b * b * b * b * b * b * b * b) * u
-      go b u g o p h k =
-          let g3 = grow (b * b * b * u) b p in
-          let g4 = grow (b * b * b * u * b) b p in
-          let g5 = grow (b * b * b * u * b * b) b p in
-          let g6 = grow (b * b * b * u * b * b * b) b p in
-          let g7 = grow (b * b * b * u * b * b * b * b) b p in
-          omega (arith, h, k, g3, g4, g5, g6, g7)
-
-  abbrev α : ℕ
-  α = total .0
-
-  all-three : numbers .0 .1 + numbers .1 .1 + numbers .2 .1 ≤ 16 * factor .0 + 54
-  all-three = three-numbers unit (numbers .0 .1) (numbers .1 .1) (numbers .2 .1) (SX .0) (SY .0) (SZ .0) (squares .0) (factor .0) unit-positive (SX .2) (SY .2) (SZ .2) (squares .2) (factor .2)
-
-  held : m + o * unit ≤ 64 * (α * unit) + 96 * unit + 54 * γ
-  held = products unit γ (factor .0) (scaled .0) o α m (numbers .0 .1 + numbers .1 .1 + numbers .2 .1) (omega (arith, X .m-top, Y .m-top, Z .m-top)) all-three (scaled .2) (total .2)
-
-  error : (g : ℕ) × HasValue (errorOf size) false g unit × (2 ^ 53 * (g * unit) ≤ 2 ^ 53 * (α * (part-held .0)) + α * (part-held .0) + 2 ^ 53 * unit)
-      × (2 ^ 53 * (α * (part-held .0)) ≤ 2 ^ 53 * (g * unit) + α * (part-held .0) + 2 ^ 53 * unit)
-  error = mul-error size part false false α (part-held .0) (total .1) (part-held .1) (le-trans (mul-le-mul size-room (part-held .3)) (omega arith))
-    where
-      size-room : α ≤ room * unit
-      size-room = le-trans (total .3) (le-trans (go bound unit (scaled .0) o bound-positive unit-positive (scaled .3) (last .3)) (mul-le-mul-right unit bound-room))
-        where
-          go : (b u g o : ℕ) → 0 < b → 0 < u → g ≤ 185 * (b * b * b) * u → o ≤ b * b * b * b * b * u → 2 * (g + o) + 2 ≤ 1024 * (b * b * b * b * b * b * b * b) * u
-          go b u g o p q h k =
-              let g0 = grow u b p in
-              let g1 = grow (u * b) b p in
-              let g2 = grow (u * b * b) b p in
-              let g3 = grow (b * b * b * u) b p in
-              let g4 = grow (b * b * b * u * b) b p in
-              let g5 = grow (b * b * b * u * b * b) b p in
-              let g6 = grow (b * b * b * u * b * b * b) b p in
-              let g7 = grow (b * b * b * u * b * b * b * b) b p in
-              omega (arith, h, k, q, g0, g1, g2, g3, g4, g5, g6, g7)
-
-  abbrev μ : ℕ
-  μ = error .0
-
-  enough : 2 * m + o * unit + 5 * slack + (2 * m + 5 * slack) + (o * unit + slack) < f * (μ * unit)
-  enough =
-      budget (α * unit) (μ * unit) unit slack m (o * unit) γ held (error-size α unit (part-held .0) μ (part-held .2) (error .3))
-      (le-trans (slack-size bound unit bound-positive) (outweighs bound unit α bound-positive bound-unit (least-held size α (total .1) some))) (le-trans (omega arith) (unit-slack bound unit bound-positive))
-      (extent-slack bound unit γ bound-positive (bounds .2)) unit-positive
-    where
-      extent-slack : (b u g : ℕ) → 0 < b → g ≤ b * u → f * g ≤ 2 * (16 * f * (b * b + b) * u)
-      extent-slack b u g p h = omega (arith, h, grow (u * b) b p)
+      last-most : nw .size ≤ room * l
+      last-most = go unit (2 ^ 300) (nw .size) (bounds .last-most) total-most unit-most (figures .last-room)
 
   -- ---- what is told
 
-  cancelled : (a b : ℕ) → a * l ≤ b * l → a ≤ b
-  cancelled a b h = le-of-mul-le-mul-right {k = l} h (length .2)
-
   told : T (le (errorOf size) S) → T (le D R)
   told h =
-      let t = le-units (errorOf size) S false (estimate .0) μ (estimate .1) (error .1) (estimate .2) h in
-      let u : μ * unit + s1 * unit ≤ s0 * unit = omega (arith, mul-le-mul-right unit t) in
-      let v =
-      ahead f (omega arith) (s0 * unit) (s1 * unit) (r0 * l) (r1 * l) (d0 * l) (d1 * l) M M' G G' (μ * unit) (2 * m + o * unit + 5 * slack) (2 * m + 5 * slack) (o * unit + slack) u (estimate-close .0)
-      (reach-close .1) (distance-close .0) (omega (arith, enough)) in
-      units-le D R (not sw) (reach .0) (distance .0) (reach .1) (distance .1) (reach .2) (cancelled (d0 + r1) (r0 + d1) (omega (arith, v)))
+      let t = le-units (error .is) (estimate .is) .0 h in
+      le-units (distance .is) (reach .is) .1
+      (le-of-mul-le-mul-right {k = l} (omega (arith, mul-le-mul-right unit t, parts μ .1, estimate .over, reach .under, distance .over)) length-some)
 
-  told-not : T (lt S (neg (errorOf size))) → T (lt R D)
-  told-not h =
-      let t = lt-units S (neg (errorOf size)) (estimate .0) true (estimate .1) μ (estimate .2) (neg-held (errorOf size) false μ (error .1)) h in
-      let u : μ * unit + s0 * unit ≤ s1 * unit = omega (arith, mul-le-mul-right unit t) in
-      let v =
-      behind f (omega arith) (s0 * unit) (s1 * unit) (r0 * l) (r1 * l) (d0 * l) (d1 * l) M M' G G' (μ * unit) (2 * m + o * unit + 5 * slack) (2 * m + 5 * slack) (o * unit + slack) u (estimate-close .1)
-      (reach-close .0) (distance-close .1) enough in
-      units-lt R D (reach .0) (not sw) (reach .1) (distance .0) (reach .2) (distance .1) (lt-of-mul-lt-mul-right l (omega (arith, v)))
+  told-not : T (lt S (neg (errorOf size))) → T (le D R) → ⊥
+  told-not h g =
+      let t = le-units (estimate .is) (neg-is (error .is)) .0 (lt-le S (neg (errorOf size)) h) in
+      let u = le-units (distance .is) (reach .is) .0 g in
+      omega (arith, mul-le-mul-right unit t, mul-le-mul-right l u, parts μ .1, unit-positive, unit-error, estimate .under, reach .over, distance .under)
 
   -- ---- the test of the plane
   keeps : (a b : Bool) → b ≡ true → (a && b) ≡ a
@@ -488,8 +337,8 @@ module _ (x y z w : Float) (r : Range3d) (he : Fits (record { x = x; y = y; z = 
   unfolding normalized lengthOf
   tested =
       reach-by-dot (fromEquation e) r
-      ∙ ap (λ (z : Float). not (isEmpty r) && le z (dot-of (one ⊘ maxOf L minLength))) (offset-is w L (length .5))
-      ∙ ap (λ (z : Float). not (isEmpty r) && le D (dot-of (one ⊘ z))) (larger-is L (length .6) (length .5))
+      ∙ ap (λ (z : Float). not (isEmpty r) && le z (dot-of (one ⊘ maxOf L minLength))) (offset-is w L least-length)
+      ∙ ap (λ (z : Float). not (isEmpty r) && le D (dot-of (one ⊘ z))) (larger-is L (positive-of-value L l unit (is-value (root .root-is)) length-some) least-length)
     where
       dot-of : Float → Float
       dot-of k = x ⊗ k ⊗ endToward (x ⊗ k) (r .min .x) (r .max .x) ⊕ y ⊗ k ⊗ endToward (y ⊗ k) (r .min .y) (r .max .y) ⊕ z ⊗ k ⊗ endToward (z ⊗ k) (r .min .z) (r .max .z)
@@ -497,7 +346,7 @@ module _ (x y z w : Float) (r : Range3d) (he : Fits (record { x = x; y = y; z = 
   settled : (T (le (errorOf size) S) → reachesPositiveSide (fromEquation e) r ≡ not (isEmpty r)) × (T (lt S (neg (errorOf size))) → reachesPositiveSide (fromEquation e) r ≡ false)
   settled = (
     λ h. tested ∙ keeps (not (isEmpty r)) (le D R) (is-true (le D R) (told h)),
-    λ h. tested ∙ none (not (isEmpty r)) (le D R) (refuted (le D R) (λ t. lt-not-le R D (told-not h) t)),
+    λ h. tested ∙ none (not (isEmpty r)) (le D R) (refuted (le D R) (told-not h)),
   )
 
 pub filter-settles : FilterSettles

@@ -1,255 +1,139 @@
 -- Along one axis: the term of the reach times the length, and the term of the estimate, are close to the product of the normal's number and that of the furthest corner. The idea: each is a few
--- roundings away from it. Where the number made unit length is lost it may point toward the other end of the range, and both terms are within the slack. Assumes nothing.
-use mathlib.Core.Path.{_≡_, refl, sym, ap, _∙_, subst}
+-- roundings away from it. Where the number made unit length is lost it may point toward the other end of the range, and both terms are within the error. Assumes nothing.
+use mathlib.Core.Path.{_≡_, refl, sym, _∙_}
 use mathlib.Core.Bool.{Bool, true, false, cond}
 use mathlib.Core.Logic.{_⊎_, inl, inr}
-use Prim.Native.Nat.{ℕ, zero, suc, _+_, _*_, _^_, _≤_, _<_}
-use native.Mathlib.Nat.{mul-le-mul-right, mul-le-mul, le-refl, le-trans, mul-pos, le-of-mul-le-mul-right}
+use Prim.Native.Nat.{ℕ, _+_, _*_, _^_, _≤_, _<_}
+use native.Mathlib.Nat.{mul-le-mul-right, mul-le-mul-left, mul-le-mul, le-trans}
 use native.Mathlib.Omega.{arith}
 use native.Mathlib.Decide.{decLt}
 use lib.Dec.{T}
-use lib.Ieee.{Float, nan, inf, fin, binary64, unlike, lt, le, eq}
+use lib.Count.{trailingZeros}
+use lib.Ieee.{Float, unlike, le, round, units, odd, size, span, climb}
 use lib.Ieee.Bits.{is-true}
-use lib.Ieee.Exact.{HasValue}
-use Rattle.number.specs.Arithmetic.{_⊗_, zeroOf}
+use Rattle.number.specs.Arithmetic.{_⊗_}
 use Rattle.number.proofs.Comparisons.{over-zero, under-zero, refuted}
-use Rattle.number.proofs.RoundingError.{unit, room, unit-positive, mul-error, le-units, units-le}
 use Rattle.matrix.specs.Constants.{positiveZero}
 use Rattle.verdict.specs.Plane.{endToward}
-use Rattle.verdict.proofs.Constants.{zero-is}
-use Rattle.verdict.proofs.FilterTerms.{Close, at-most, quotient-size, product-size, term, lost}
-use Rattle.verdict.proofs.FilterBounds.{bound, bound-positive, bound-room, bound-unit, Bounded}
-use Rattle.verdict.proofs.FilterNumbers.{Within}
+use Rattle.number.proofs.RoundingError.{unit, room, unit-positive, Is, of-value, Units, Rounded, most-of, product, le-units}
+use Rattle.number.proofs.CountedErrors.{About, about, rounded-about}
+use Rattle.verdict.proofs.FilterTerms.{quotient-size, product-size, some-left, term, lost}
+use Rattle.verdict.proofs.FilterNumbers.{Normal, End, figures, Within}
 
--- a rounding is within one part in 16 f
-abbrev pub f : ℕ
-f = 562949953421312
+-- ---- whether a number is at least 0
 
-abbrev pub slack : ℕ
-slack = 2 * (16 * f * (bound * bound + bound) * unit)
+zero-held : Is positiveZero false 0
+unfolding round units odd size span climb trailingZeros
+zero-held = of-value (refl, omega arith)
 
--- P is the term of the reach, t that of the estimate, l the length in units, and top what the exact product is at most
-pub record Axis (l top : ℕ) (P t : Float) : Type 0 where
-  pub P-sign : Bool
-  pub p : ℕ
-  pub t-sign : Bool
-  pub size : ℕ
-  pub m : ℕ
-  pub P-is : HasValue P P-sign p unit
-  pub t-is : HasValue t t-sign size unit
-  pub near : f * (over-zero P-sign p * l + under-zero t-sign m) ≤ f * (under-zero P-sign p * l + over-zero t-sign m) + m + slack
-  pub near-back : f * (under-zero P-sign p * l + over-zero t-sign m) ≤ f * (over-zero P-sign p * l + under-zero t-sign m) + m + slack
-  pub most : p * l ≤ 2 * m + slack
-  pub close : Close (16 * f) (size * unit) m (16 * f * unit)
-  pub p-room : p ≤ 16 * (bound * bound * bound) * unit
-  pub size-room : size ≤ 4 * (bound * bound) * unit
-  pub m-top : m ≤ top
+at-least : {x : Float} {g : ℕ} → Is x false g → le positiveZero x ≡ true
+at-least {x} h = is-true (le positiveZero x) (le-units zero-held h .1 (omega arith))
 
--- ---- numbers with a sign
-
--- sizes that are close are close with one sign
-pub signed : (s : Bool) (x m t : ℕ) (l : ℕ) → Close f (x * l) m t
-    → (f * (over-zero s x * l + under-zero s m) ≤ f * (under-zero s x * l + over-zero s m) + m + 2 * t) × (f * (under-zero s x * l + over-zero s m) ≤ f * (over-zero s x * l + under-zero s m) + m + 2 * t)
-signed false x m t l (a, b) = (omega (arith, a), omega (arith, b))
-signed true x m t l (a, b) = (omega (arith, b), omega (arith, a))
-
--- and small ones with any
-small : (s s' : Bool) (x m t l : ℕ) → f * (x * l) ≤ t → f * m ≤ t
-    → (f * (over-zero s x * l + under-zero s' m) ≤ f * (under-zero s x * l + over-zero s' m) + m + 2 * t) × (f * (under-zero s x * l + over-zero s' m) ≤ f * (over-zero s x * l + under-zero s' m) + m + 2 * t)
-small false false x m t l a b = (omega (arith, a, b), omega (arith, a, b))
-small false true x m t l a b = (omega (arith, a, b), omega (arith, a, b))
-small true false x m t l a b = (omega (arith, a, b), omega (arith, a, b))
-small true true x m t l a b = (omega (arith, a, b), omega (arith, a, b))
-
--- whether a number is at least 0
-at-least : (x : Float) (g : ℕ) → HasValue x false g unit → le positiveZero x ≡ true
-at-least x g h = is-true (le positiveZero x) (units-le positiveZero x false false 0 g (subst (λ (z : Float). HasValue z false 0 unit) (sym zero-is) (refl, omega arith)) h (omega arith))
-
-below : (x : Float) (g : ℕ) → HasValue x true g unit → 0 < g → le positiveZero x ≡ false
-below x g h p = refuted (le positiveZero x) (λ t. no (le-units positiveZero x false true 0 g (subst (λ (z : Float). HasValue z false 0 unit) (sym zero-is) (refl, omega arith)) h t))
+below : {x : Float} {g : ℕ} → Is x true g → 0 < g → le positiveZero x ≡ false
+below {x} {g} h p = refuted (le positiveZero x) (λ t. no (le-units zero-held h .0 t))
   where
     no : 0 + g ≤ 0 + 0 → ⊥
     no h = omega arith
 
-like : (s : Bool) → unlike s false ≡ s
-like false = refl
-like true = refl
+-- ---- room
 
--- ---- the bounds leave room
+pub room-for : (i j a b : ℕ) → a ≤ i * unit → b ≤ j * unit → i * j ≤ room → a * b ≤ room * (unit * unit)
+room-for i j a b h k r = go unit (mul-le-mul h k)
+  where
+    go : (u : ℕ) → a * b ≤ i * u * (j * u) → a * b ≤ room * (u * u)
+    go u h = omega (arith, h, mul-le-mul-right (u * u) r)
 
-pub grow : (x b : ℕ) → 0 < b → x ≤ x * b
-grow x b p = omega (arith, mul-le-mul-right x p)
+-- ---- the terms
 
-powers : (b : ℕ) → 0 < b → (b ≤ b * b * b * b * b * b * b * b) × (b * b * b * b ≤ b * b * b * b * b * b * b * b)
-powers b p =
-    let g2 = grow b b p in
-    let g3 = grow (b * b) b p in
-    let g4 = grow (b * b * b) b p in
-    let g5 = grow (b * b * b * b) b p in
-    let g6 = grow (b * b * b * b * b) b p in
-    let g7 = grow (b * b * b * b * b * b) b p in
-    let g8 = grow (b * b * b * b * b * b * b) b p in
-    let h = le-trans g5 (le-trans g6 (le-trans g7 g8)) in
-    (le-trans g2 (le-trans g3 (le-trans g4 h)), h)
+-- P is the term of the reach and t that of the estimate; l is the length, and top what the exact product is at most
+pub record Axis (l ε top : ℕ) (P t : Float) : Type 0 where
+  pub sign : Bool
+  pub exact : ℕ
+  pub most : exact ≤ top
+  pub reach : About l ε P (over-zero sign exact) (under-zero sign exact) 8
+  pub estimate : About unit ε t (over-zero sign exact) (under-zero sign exact) 2
 
-pub few : 16 * f * bound ≤ unit
-few = let q = powers bound bound-positive in le-trans (omega (arith, q .0)) bound-unit
+-- what is small is close to any other such
+small : {x : Float} {s : Bool} {a : ℕ} (k ε : ℕ) (s' : Bool) (m : ℕ) → Is x s a → a * k ≤ 7 * ε → m ≤ ε → About k ε x (over-zero s' m) (under-zero s' m) 8
+small {s = s} {a} k ε s' m h p q = let g = go s s' in record { sign = s; size = a; is = h; over = g .0; under = g .1 }
+  where
+    go : (s s' : Bool) → (over-zero s a * k + under-zero s' m ≤ under-zero s a * k + over-zero s' m + 8 * ε) × (under-zero s a * k + over-zero s' m ≤ over-zero s a * k + under-zero s' m + 8 * ε)
+    go false false = omega arith
+    go false true = omega arith
+    go true false = omega arith
+    go true true = omega arith
 
-pub many : 1024 * (bound * bound * bound * bound) ≤ room
-many = let q = powers bound bound-positive in le-trans (omega (arith, q .1)) bound-room
+module _ (l ε ext : ℕ) (k : Float) (K : Rounded k false l (unit * unit) l) (UL : unit ≤ 2 ^ 31 * l) (L : 0 < l) (X : ext ≤ End * unit) (S : 8 * ((Normal + 1) * (End + 1)) * l ≤ ε) (UE : unit ≤ ε)
+    (n : Float) (N : Units n) (AU : N .size ≤ Normal * unit) (T : N .size * ext ≤ 2 ^ 53 * ε) where
+  abbrev a : ℕ
+  a = N .size
 
-pub least-unit : 16 * f ≤ unit
-least-unit = le-trans (grow (16 * f) bound bound-positive) few
+  over-size : K .units ≤ 2 ^ 33 * unit
+  over-size = quotient-size unit l (K .units) unit-positive L (most-of (K .units * l) (unit * unit) l (K .near)) UL
 
--- so many bounds, times the unit twice
-room-for : (x : ℕ) → x ≤ 1024 * (bound * bound * bound * bound) * (unit * unit) → x ≤ room * (unit * unit)
-room-for x h = le-trans h (mul-le-mul-right (unit * unit) many)
+  scaled : Rounded (n ⊗ k) (unlike (N .sign) false) unit (a * K .units) unit
+  scaled = product (N .is) (K .is) (room-for Normal (2 ^ 33) a (K .units) AU over-size (figures .scaled-room))
 
-pos-f : 0 < 16 * f
-pos-f = omega arith
+  abbrev v : ℕ
+  v = scaled .units
 
--- ---- the terms, by the factor k that makes the normal unit length
-
-module _ (l κ ext : ℕ) (k : Float) (L : 0 < l) (LU : l ≤ bound * unit) (UL : unit ≤ bound * l) (XU : ext ≤ bound * unit) (K : HasValue k false κ unit) (H : Close (16 * f) (κ * l) (unit * unit) (16 * f * l)) where
-  κ-size : κ ≤ 3 * bound * unit
-  κ-size = quotient-size (16 * f) unit bound l κ pos-f bound-positive L least-unit UL H
-
-  module _ (n : Float) (sn : Bool) (a : ℕ) (A : HasValue n sn a unit) (AU : a ≤ bound * unit) where
-    scaled-size : a * κ ≤ 3 * (bound * bound) * (unit * unit)
-    scaled-size = omega (arith, mul-le-mul AU κ-size)
-
-    more : (x : ℕ) → 3 * (bound * bound) * x ≤ 1024 * (bound * bound * bound * bound) * x
-    more x =
-        let g = grow (bound * bound * x) bound bound-positive in
-        let h = grow (bound * bound * x * bound) bound bound-positive in
-        omega (arith, g, h)
-
-    abbrev N : Float
-    N = n ⊗ k
-
-    scaled : (g : ℕ) × HasValue N (unlike sn false) g unit × (2 ^ 53 * (g * unit) ≤ 2 ^ 53 * (a * κ) + a * κ + 2 ^ 53 * unit) × (2 ^ 53 * (a * κ) ≤ 2 ^ 53 * (g * unit) + a * κ + 2 ^ 53 * unit)
-    scaled = mul-error n k sn false a κ A K (room-for (a * κ) (le-trans scaled-size (more (unit * unit))))
-
-    abbrev v : ℕ
-    v = scaled .0
-
-    N-is : HasValue N sn v unit
-    N-is = subst (λ (s : Bool). HasValue N s v unit) (like sn) (scaled .1)
-
-    H2 : Close (16 * f) (v * unit) (a * κ) (16 * f * unit)
-    H2 = (scaled .2, scaled .3)
-
-    v-size : v ≤ 7 * (bound * bound) * unit
-    v-size = omega (arith, product-size (16 * f) unit (3 * (bound * bound)) (a * κ) v pos-f unit-positive least-unit scaled-size H2, mul-le-mul-right unit (mul-le-mul bound-positive bound-positive))
-
-    -- both point toward the same end, or nothing is left of the one made unit length
-    agree : (le positiveZero N ≡ le positiveZero n) ⊎ (v ≤ 1)
-    agree = go sn A N-is
-      where
-        nothing : (u v κ : ℕ) → 0 < u → 16 * f * (v * u) ≤ 16 * f * (0 * κ) + 0 * κ + 16 * f * u → v ≤ 1
-        nothing u v κ U h = le-of-mul-le-mul-right {k = u} (omega (arith, h)) U
-
-        none : a ≡ 0 → v ≤ 1
-        none e = nothing unit v κ unit-positive (subst (λ (i : ℕ). 16 * f * (v * unit) ≤ 16 * f * (i * κ) + i * κ + 16 * f * unit) e (H2 .0))
-
-        some : (a : ℕ) → (a ≡ 0 → v ≤ 1) → 1 < v → 0 < a
-        some zero h g = absurd (let z = h refl in omega (arith, z, g))
-        some (suc a) h g = omega arith
-
-        go : (s : Bool) → HasValue n s a unit → HasValue N s v unit → (le positiveZero N ≡ le positiveZero n) ⊎ (v ≤ 1)
-        go false h g = inl (at-least N v g ∙ sym (at-least n a h))
-        go true h g = by (decLt 1 v)
-          where
-            by : Dec (1 < v) → (le positiveZero N ≡ le positiveZero n) ⊎ (v ≤ 1)
-            by (yes m) = inl (below N v g (omega (arith, m)) ∙ sym (below n a h (some a none m)))
-            by (no m) = inr (omega (arith, m))
-
-    -- ---- with an end c of the range
-    module _ (c : Float) (sc : Bool) (d : ℕ) (C : HasValue c sc d unit) (CX : d ≤ ext) where
-      CU : d ≤ bound * unit
-      CU = le-trans CX XU
-
-      made : (g : ℕ) × HasValue (N ⊗ c) (unlike sn sc) g unit × (2 ^ 53 * (g * unit) ≤ 2 ^ 53 * (v * d) + v * d + 2 ^ 53 * unit) × (2 ^ 53 * (v * d) ≤ 2 ^ 53 * (g * unit) + v * d + 2 ^ 53 * unit)
-      made = mul-error N c sn sc v d N-is C (room-for (v * d) (omega (arith, mul-le-mul v-size CU, grow (bound * bound * bound * (unit * unit)) bound bound-positive)))
-
-      p-size : made .0 ≤ 16 * (bound * bound * bound) * unit
-      p-size =
-          omega (
-            arith,
-            product-size (16 * f) unit (7 * (bound * bound * bound)) (v * d) (made .0) pos-f unit-positive least-unit (omega (arith, mul-le-mul v-size CU)) (made .2, made .3),
-            mul-le-mul-right unit (mul-le-mul (mul-le-mul bound-positive bound-positive) bound-positive),
-          )
-
-      estimated : (g : ℕ) × HasValue (n ⊗ c) (unlike sn sc) g unit × (2 ^ 53 * (g * unit) ≤ 2 ^ 53 * (a * d) + a * d + 2 ^ 53 * unit) × (2 ^ 53 * (a * d) ≤ 2 ^ 53 * (g * unit) + a * d + 2 ^ 53 * unit)
-      estimated = mul-error n c sn sc a d A C (room-for (a * d) (omega (arith, mul-le-mul AU CU, more (unit * unit))))
-
-      t-size : estimated .0 ≤ 4 * (bound * bound) * unit
-      t-size =
-          omega (
-            arith,
-            product-size (16 * f) unit (bound * bound) (a * d) (estimated .0) pos-f unit-positive least-unit (omega (arith, mul-le-mul AU CU)) (estimated .2, estimated .3),
-            mul-le-mul-right unit (mul-le-mul bound-positive bound-positive),
-          )
-
-      alike : Close f (made .0 * l) (a * d) (16 * f * (bound * bound + bound) * unit)
-      alike = term f unit bound a d l κ v (made .0) (omega arith) unit-positive few LU CU H H2 (made .2, made .3)
-
-      same : Axis l (a * ext) (N ⊗ c) (n ⊗ c)
-      same =
-          let s = signed (unlike sn sc) (made .0) (a * d) (16 * f * (bound * bound + bound) * unit) l alike in
-          let t = at-most f (made .0 * l) (a * d) (16 * f * (bound * bound + bound) * unit) (omega arith) alike in
-          record {
-            P-sign = unlike sn sc;
-            p = made .0;
-            t-sign = unlike sn sc;
-            size = estimated .0;
-            m = a * d;
-            P-is = made .1;
-            t-is = estimated .1;
-            near = s .0;
-            near-back = s .1;
-            most = omega (arith, t);
-            close = (estimated .2, estimated .3);
-            p-room = p-size;
-            size-room = t-size;
-            m-top = mul-le-mul (le-refl a) CX;
-          }
-
-    -- ---- with two ends, where nothing is left
-    apart : (c c' : Float) → Within ext c → Within ext c' → v ≤ 1 → Axis l (a * ext) (N ⊗ c) (n ⊗ c')
-    apart c c' (sc, d, C, CX) (sc', d', C', CX') e =
-        let w = made c sc d C CX in
-        let q = estimated c' sc' d' C' CX' in
-        let z = lost f unit bound a d l κ v (w .0) (omega arith) unit-positive few LU (le-trans CX XU) H H2 (w .2, w .3) e d' (le-trans CX' XU) in
-        let s = small (unlike sn sc) (unlike sn sc') (w .0) (a * d') (16 * f * (bound * bound + bound) * unit) l (z .0) (z .1) in
-        record {
-          P-sign = unlike sn sc;
-          p = w .0;
-          t-sign = unlike sn sc';
-          size = q .0;
-          m = a * d';
-          P-is = w .1;
-          t-is = q .1;
-          near = s .0;
-          near-back = s .1;
-          most = omega (arith, z .0);
-          close = (q .2, q .3);
-          p-room = p-size c sc d C CX;
-          size-room = t-size c' sc' d' C' CX';
-          m-top = mul-le-mul (le-refl a) CX';
-        }
-
-  -- the end that a number points toward is one of two
-  end-bounded : (b : Bool) (low high : Float) → Within ext low → Within ext high → Within ext (cond b high low)
-  end-bounded true low high x y = y
-  end-bounded false low high x y = x
-
-  pub axis : (n low high : Float) (h : Bounded n) → Within ext low → Within ext high → Axis l (h .1 * ext) (n ⊗ k ⊗ endToward (n ⊗ k) low high) (n ⊗ endToward n low high)
-  unfolding endToward
-  axis n low high (sn, a, A, AU) x y = go (agree n sn a A AU)
+  scaled-is : Is (n ⊗ k) (N .sign) v
+  scaled-is = rw (like (N .sign)) at (scaled .is)
     where
-      go : (le positiveZero (n ⊗ k) ≡ le positiveZero n) ⊎ (scaled n sn a A AU .0 ≤ 1) → Axis l (a * ext) (n ⊗ k ⊗ cond (le positiveZero (n ⊗ k)) high low) (n ⊗ cond (le positiveZero n) high low)
-      go (inl e) =
-          subst (λ (b : Bool). Axis l (a * ext) (n ⊗ k ⊗ cond (le positiveZero (n ⊗ k)) high low) (n ⊗ cond b high low)) e
-          (let (sc, d, C, CX) = end-bounded (le positiveZero (n ⊗ k)) low high x y in same n sn a A AU (cond (le positiveZero (n ⊗ k)) high low) sc d C CX)
-      go (inr e) = apart n sn a A AU _ _ (end-bounded (le positiveZero (n ⊗ k)) low high x y) (end-bounded (le positiveZero n) low high x y) e
+      like : (s : Bool) → unlike s false ≡ s
+      like false = refl
+      like true = refl
+
+  scaled-size : v ≤ (2 * (Normal * 2 ^ 33) + 1) * unit
+  scaled-size = product-size unit v a (K .units) Normal (2 ^ 33) unit-positive (most-of (v * unit) (a * K .units) unit (scaled .near)) AU over-size
+
+  -- both point toward the same end, or nothing is left of the one made unit length
+  agree : (le positiveZero (n ⊗ k) ≡ le positiveZero n) ⊎ (v ≤ 1)
+  agree = go (N .sign) (N .is) scaled-is (decLt 1 v)
+    where
+      go : (s : Bool) → Is n s a → Is (n ⊗ k) s v → Dec (1 < v) → (le positiveZero (n ⊗ k) ≡ le positiveZero n) ⊎ (v ≤ 1)
+      go false h g d = inl (at-least g ∙ sym (at-least h))
+      go true h g (yes m) = inl (below g (omega (arith, m)) ∙ sym (below h (some-left a v (K .units) unit unit-positive (most-of (v * unit) (a * K .units) unit (scaled .near)) m)))
+      go true h g (no m) = inr (omega (arith, m))
+
+  module _ (c : Float) (C : Within ext c) where
+    abbrev d : ℕ
+    d = C .number .size
+
+    near-end : d ≤ End * unit
+    near-end = le-trans (C .most) X
+
+    exact-most : a * d ≤ 2 ^ 53 * ε
+    exact-most = le-trans (mul-le-mul-left a (C .most)) T
+
+    made : Rounded (n ⊗ k ⊗ c) (unlike (N .sign) (C .number .sign)) unit (v * d) unit
+    made = product scaled-is (C .number .is) (room-for (2 * (Normal * 2 ^ 33) + 1) End v d scaled-size near-end (figures .made-room))
+
+    estimated : About unit ε (n ⊗ c) (over-zero (unlike (N .sign) (C .number .sign)) (a * d)) (under-zero (unlike (N .sign) (C .number .sign)) (a * d)) 2
+    estimated = rounded-about (product (N .is) (C .number .is) (room-for Normal End a d AU near-end (figures .estimate-room))) exact-most UE
+
+    same : Axis l ε (a * ext) (n ⊗ k ⊗ c) (n ⊗ c)
+    same =
+        let t = term unit l (K .units) a v Normal End ε unit-positive AU S (K .near) (scaled .near) d (made .units) near-end exact-most (made .near) in
+        record { sign = unlike (N .sign) (C .number .sign); exact = a * d; most = mul-le-mul-left a (C .most); reach = about (a * d) (made .is) (omega (arith, t)); estimate = estimated }
+
+  apart : (c c' : Float) → Within ext c → Within ext c' → v ≤ 1 → Axis l ε (a * ext) (n ⊗ k ⊗ c) (n ⊗ c')
+  apart c c' C C' e =
+      let w = made c C in
+      let s = unlike (N .sign) (C' .number .sign) in
+      let d' = C' .number .size in
+      let z =
+      lost unit l (K .units) a v Normal End ε unit-positive AU S (K .near) (scaled .near) (C .number .size) (w .units) d' e (near-end c C) (near-end c' C') (exact-most c C) (w .near) in
+      record { sign = s; exact = a * d'; most = mul-le-mul-left a (C' .most); reach = small l ε s (a * d') (w .is) (z .0) (z .1); estimate = estimated c' C' }
+
+  end-within : (b : Bool) (low high : Float) → Within ext low → Within ext high → Within ext (cond b high low)
+  end-within true low high x y = y
+  end-within false low high x y = x
+
+  pub axis : (low high : Float) → Within ext low → Within ext high → Axis l ε (a * ext) (n ⊗ k ⊗ endToward (n ⊗ k) low high) (n ⊗ endToward n low high)
+  unfolding endToward
+  axis low high x y = go agree
+    where
+      go : (le positiveZero (n ⊗ k) ≡ le positiveZero n) ⊎ (v ≤ 1) → Axis l ε (a * ext) (n ⊗ k ⊗ cond (le positiveZero (n ⊗ k)) high low) (n ⊗ cond (le positiveZero n) high low)
+      go (inl e) = rw e (same (cond (le positiveZero n) high low) (end-within (le positiveZero n) low high x y))
+      go (inr e) = apart _ _ (end-within (le positiveZero (n ⊗ k)) low high x y) (end-within (le positiveZero n) low high x y) e

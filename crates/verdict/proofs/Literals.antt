@@ -5,7 +5,7 @@ use lib.Count.{trailingZeros}
 use lib.Ieee.{binary64, ofBits, round, units, odd, size, span, climb}
 use Rattle.matrix.specs.Constants.{rounded}
 use Rattle.verdict.specs.BBox.{boxEpsilon}
-use Rattle.verdict.specs.Steps.Filter.{short, long, least, most, part}
+use Rattle.verdict.specs.Steps.Filter.{short, long, leastSize, mostSize, part}
 
 pub millionth-bits : ofBits binary64 0x3eb0_c6f7_a0b5_ed8d ≡ rounded 1 (10 ^ 6)
 unfolding ofBits round units odd size span climb trailingZeros
@@ -23,11 +23,11 @@ pub long-bits : ofBits binary64 0x43ab_c16d_674e_c800 ≡ long
 unfolding ofBits round units odd size span climb trailingZeros
 long-bits = refl
 
-pub least-bits : ofBits binary64 0x2d40_4bd9_8499_0e6f ≡ least
+pub least-bits : ofBits binary64 0x2d40_4bd9_8499_0e6f ≡ leastSize
 unfolding ofBits round units odd size span climb trailingZeros
 least-bits = refl
 
-pub most-bits : ofBits binary64 0x529f_6b0f_0929_59c7 ≡ most
+pub most-bits : ofBits binary64 0x529f_6b0f_0929_59c7 ≡ mostSize
 unfolding ofBits round units odd size span climb trailingZeros
 most-bits = refl
 

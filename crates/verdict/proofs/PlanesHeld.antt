@@ -9,10 +9,10 @@ use lib.Dec.{leb}
 use lib.ListN.{length}
 use lib.Ieee.{Float}
 use Rattle.number.specs.Limits.{fewestPlanes}
-use Rattle.number.specs.Answer.{Outcome, refused, result, unless, has}
+use Rattle.number.specs.Answer.{Outcome, refused, result, andThen, unless, has}
 use Rattle.number.specs.Slice.{at}
 use Rattle.number.proofs.Ways.{stops, passes}
-use Rattle.verdict.specs.View.{volumeLength, planeCountOf, andThen, planesHeld}
+use Rattle.verdict.specs.View.{volumeLength, planeCountOf, planesHeld}
 use Rattle.verdict.specs.Steps.Passes.{HasPlanes, IsView}
 use Rattle.verdict.proofs.PlaneCount.{count-within}
 

@@ -14,14 +14,14 @@ use lib.Ieee.{Float, binary64, nan, ofBits}
 use Rattle.number.specs.Limits.{planeLength, mostPlanes}
 use Rattle.number.specs.Answer.{Outcome, refused, result, unless, has}
 use Rattle.number.specs.Slice.{at}
+use Rattle.number.proofs.Tabulate.{same-values}
 use Rattle.verdict.specs.declared.plane.Plane.{Plane}
 use Rattle.verdict.specs.Plane.{plane}
 use Rattle.verdict.specs.View.{planeStart, planeAt, planesOf, planesHeld}
-use Rattle.verdict.specs.Rows.{rowsLength, rowPlace, InRows, withPlane, withPlanes, loaded, planeInRows, planesInRows}
+use Rattle.verdict.specs.Rows.{rowsLength, rowPlace, InRows, withPlane, withPlanes, rowsLoaded, planeInRows, planesInRows}
 use Rattle.verdict.specs.Frustum.{pointInView, segmentInView, triangleInView, boxInView}
-use Rattle.verdict.specs.SideBySide.{EveryPlace, PlanesEqual, OneAnswer, VerdictsAgree, BeyondUnread}
+use Rattle.verdict.specs.SideBySide.{EveryPlace, PlanesEqual, SameVerdicts, VerdictsAgree, BeyondUnread}
 use Rattle.verdict.proofs.PlanesHeld.{held}
-use Rattle.verdict.proofs.ViewLists.{same-values}
 
 -- a number of the first row stands at the plane's own place
 pub first-row : (i : ℕ) → rowPlace 0 i ≡ i
@@ -50,7 +50,7 @@ planes-in v l n h = same-values (planeInRows l) (planeAt v) n (λ i below. plane
 
 -- ---- the verdicts
 
-one-answer : (ps qs : List Plane) → ps ≡ qs → OneAnswer ps qs
+one-answer : (ps qs : List Plane) → ps ≡ qs → SameVerdicts ps qs
 one-answer ps qs e = record {
   point = λ p. ap (λ (l : List Plane). pointInView l p) e;
   segment = λ a b. ap (λ (l : List Plane). segmentInView l a b) e;
@@ -169,14 +169,14 @@ every-place v l n room most = (in-rows v l room n most, λ i j. behind v l n i j
 -- ---- what a record leaves
 
 module _ (v l : List Float) (o : Outcome ℕ) where
-  pub kept-of-refused : (k : ℕ) → refused k ≡ o → l ≡ loaded o v l
-  kept-of-refused k e = ap (λ (x : Outcome ℕ). loaded x v l) e
+  pub kept-of-refused : (k : ℕ) → refused k ≡ o → l ≡ rowsLoaded o v l
+  kept-of-refused k e = ap (λ (x : Outcome ℕ). rowsLoaded x v l) e
 
-  pub by-room : (n : ℕ) (b : Bool) → result n ≡ o → has rowsLength l ≡ b → unless b l (withPlanes v n l) ≡ loaded o v l
-  by-room n b e f = sym (ap (λ (c : Bool). unless c l (withPlanes v n l)) f) ∙ ap (λ (x : Outcome ℕ). loaded x v l) e
+  pub by-room : (n : ℕ) (b : Bool) → result n ≡ o → has rowsLength l ≡ b → unless b l (withPlanes v n l) ≡ rowsLoaded o v l
+  by-room n b e f = sym (ap (λ (c : Bool). unless c l (withPlanes v n l)) f) ∙ ap (λ (x : Outcome ℕ). rowsLoaded x v l) e
 
 -- what is then read from rows that were all zeros before
-pub planes-held-in : (n : ℕ) (v k : List Float) → result n ≡ planesHeld v → k ≡ loaded (planesHeld v) v (replicate rowsLength (ofBits binary64 0)) → planesInRows k n ≡ planesOf v n
+pub planes-held-in : (n : ℕ) (v k : List Float) → result n ≡ planesHeld v → k ≡ rowsLoaded (planesHeld v) v (replicate rowsLength (ofBits binary64 0)) → planesInRows k n ≡ planesOf v n
 planes-held-in n v k e f =
     let l = replicate rowsLength (ofBits binary64 0) in
     let room = length-replicate rowsLength (ofBits binary64 0) in

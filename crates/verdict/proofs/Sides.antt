@@ -12,10 +12,11 @@ use lib.ListN.{length}
 use lib.Pow.{pow-mono}
 use Rattle.number.specs.Limits.{fewestPlanes, mostPlanes}
 use Rattle.number.specs.Every.{every}
+use Rattle.number.specs.Tabulate.{tabulate}
 use Rattle.matrix.specs.declared.vec.Vec3d.{Vec3d}
 use Rattle.verdict.specs.declared.plane.Plane.{Plane}
 use Rattle.verdict.specs.Plane.{onPositiveSide}
-use Rattle.verdict.specs.View.{nearPlane, tabulate, nearAndFar}
+use Rattle.verdict.specs.View.{nearPlane, nearAndFar}
 use Rattle.verdict.specs.Frustum.{pointInView, hasEnd, hasCorner, hasCorners}
 use Rattle.verdict.specs.Steps.Passes.{bit, maskOf, sidesOf, allPlanes, nearAndFarIn}
 use Rattle.verdict.proofs.Masks.{bit-small, below, ones, either, both}

@@ -18,7 +18,7 @@ use Rattle.verdict.specs.View.{planesHeld, planesOf, raysOf}
 use Rattle.verdict.specs.Frustum.{pointInView, segmentInView, triangleInView, boxInView, boxInViewVolume}
 use Rattle.verdict.specs.FrustumCalls.{haveLengths, verdictAfter, verdictBy, intersectsPointCall, intersectsSegmentCall, intersectsTriangleCall, intersectsBoxCall, viewVolumeCall}
 use Rattle.verdict.specs.FiniteNumbers.{AnsweredFinite}
-use Rattle.verdict.proofs.VerdictChecks.{one-input, two-inputs, last-record, next-record, answered, given-finite}
+use Rattle.verdict.proofs.VerdictChecks.{one-input, two-inputs, last-record, next-record, by-tests, given-finite}
 
 pub point-call : (v p : List Float)
     → verdictAfter (haveLengths ((pointLength, p) ∷ [])) (planesHeld v) true (v ∷ p ∷ []) (λ n. pointInView (planesOf v n) (vec3Of p)) ≡ intersectsPointCall v p
@@ -63,14 +63,14 @@ answered-finite = record {
 module _ (v : List Float) (n : ℕ) (e : result n ≡ planesHeld v) (w : allFinite v ≡ true) where
   pub point-answered : (p : List Float) → length p ≡ pointLength → allFinite p ≡ true → intersectsPointCall v p ≡ result (pointInView (planesOf v n) (vec3Of p))
   point-answered p h f =
-      sym (answered _ _ _ _ _ (one-input pointLength p ∙ eq-eqb _ _ h) n e refl (sym (next-record _ (sym w) _ (last-record _ (sym f)))) _ refl ∙ point-call v p)
+      sym (by-tests _ _ _ _ _ (one-input pointLength p ∙ eq-eqb _ _ h) e refl (sym (next-record v (sym w) _ (last-record p (sym f)))) ∙ point-call v p)
 
   pub segment-answered : (p q : List Float) → length p ≡ pointLength → length q ≡ pointLength → allFinite p ≡ true → allFinite q ≡ true
       → intersectsSegmentCall v p q ≡ result (segmentInView (planesOf v n) (vec3Of p) (vec3Of q))
   segment-answered p q h i f g =
-      sym (answered _ _ _ _ _ (two-inputs pointLength p pointLength q ∙ both (eq-eqb _ _ h) (eq-eqb _ _ i)) n e refl
-      (sym (next-record _ (sym w) _ (next-record _ (sym f) _ (last-record _ (sym g))))) _ refl ∙ segment-call v p q)
+      sym (by-tests _ _ _ _ _ (two-inputs pointLength p pointLength q ∙ both (eq-eqb _ _ h) (eq-eqb _ _ i)) e refl
+      (sym (next-record v (sym w) _ (next-record p (sym f) _ (last-record q (sym g))))) ∙ segment-call v p q)
 
   pub box-answered : (b : List Float) → length b ≡ boxLength → flagged b ≡ true → allFinite b ≡ true → intersectsBoxCall v b ≡ result (boxInView (planesOf v n) (boxOf b))
   box-answered b h g f =
-      sym (answered _ _ _ _ _ (one-input boxLength b ∙ eq-eqb _ _ h) n e g (sym (next-record _ (sym w) _ (last-record _ (sym f)))) _ refl ∙ box-call v b)
+      sym (by-tests _ _ _ _ _ (one-input boxLength b ∙ eq-eqb _ _ h) e g (sym (next-record v (sym w) _ (last-record b (sym f)))) ∙ box-call v b)

@@ -5,18 +5,18 @@ use lib.Ieee.{toUnsigned, add, sub, mul, div, neg, lt, le, eq, isNan, round, sum
 use Rattle.number.specs.Every.{every}
 use Rattle.number.specs.Arithmetic.{absOf, minOf, maxOf}
 use Rattle.number.specs.Root.{sqrtOf}
-use Rattle.number.specs.Slice.{allFinite}
+use Rattle.number.specs.Tabulate.{tabulate}
 use Rattle.matrix.specs.Vec.{lengthOf, normalized}
 use Rattle.matrix.specs.Inverse.{adjugate, determinant, inverseAbove}
 use Rattle.matrix.specs.Range.{isEmpty}
 use Rattle.verdict.specs.Plane.{offset, endToward, reachesPositiveSide}
-use Rattle.verdict.specs.View.{planeCountOf, planesHeld, tabulate}
+use Rattle.verdict.specs.View.{planeCountOf, planesHeld}
 use Rattle.verdict.specs.Frustum.{pointInView, spanLeft, segmentInView, boxInView, triangleInView}
 use Rattle.verdict.specs.FrustumCalls.{haveLengths, verdictAfter, verdictBy, intersectsPointCall, intersectsSegmentCall, intersectsTriangleCall, intersectsBoxCall}
 use Rattle.verdict.specs.WorkedScreens.{WorkedScreens}
 
 pub worked-screens : WorkedScreens
-unfolding haveLengths verdictAfter verdictBy intersectsPointCall intersectsSegmentCall intersectsTriangleCall intersectsBoxCall planeCountOf planesHeld every allFinite pointInView spanLeft segmentInView boxInView triangleInView tabulate offset endToward reachesPositiveSide isEmpty adjugate determinant inverseAbove lengthOf normalized sqrtOf absOf minOf maxOf toUnsigned add sub mul div neg lt le eq isNan round sum units odd size span climb trailingZeros
+unfolding haveLengths verdictAfter verdictBy intersectsPointCall intersectsSegmentCall intersectsTriangleCall intersectsBoxCall planeCountOf planesHeld every pointInView spanLeft segmentInView boxInView triangleInView tabulate offset endToward reachesPositiveSide isEmpty adjugate determinant inverseAbove lengthOf normalized sqrtOf absOf minOf maxOf toUnsigned add sub mul div neg lt le eq isNan round sum units odd size span climb trailingZeros
 worked-screens = record {
   point = refl;
   point-screened = refl;

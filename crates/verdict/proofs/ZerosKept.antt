@@ -14,6 +14,7 @@ use lib.Ieee.{Float, nan, inf, fin, binary64, up, down, unlike, mul, eq, ofBits}
 use lib.Ieee.Scale.{finite}
 use lib.Ieee.Fits.{down-pos}
 use Rattle.number.specs.Arithmetic.{_⊗_, zeroOf}
+use Rattle.number.specs.Every.{every}
 use Rattle.number.specs.Slice.{at, allFinite}
 use Rattle.number.proofs.Tests.{and-true}
 use Rattle.number.proofs.Zeros.{round-zero}
@@ -87,7 +88,7 @@ regrouped true true true false true true true h r = refl
 regrouped true true true true true true true h r = refl
 
 next : (s : List Float) (i j : ℕ) → i < length s → j ≡ i + 1 → allFinite (drop i s) ≡ (finite (at s i) && allFinite (drop j s))
-unfolding allFinite
+unfolding every
 next s i j h e = ap allFinite (drop-cons s i nan h) ∙ ap (λ (n : ℕ). finite (at s i) && allFinite (drop n s)) (sym (e ∙ add-one i))
 
 -- four zeros, and what they tell with the numbers from a place on
@@ -139,7 +140,7 @@ four-more s i j a b c d h e k =
 
 -- none is left
 pub all-told : (s : List Float) (i : ℕ) (a b c d : Float) → i ≡ length s → FourKept s i a b c d → (clean a && clean b && clean c && clean d) ≡ allFinite s
-unfolding allFinite
+unfolding every
 all-told s i a b c d e k =
     sym (and-true (clean a && clean b && clean c && clean d))
     ∙ sym (ap (λ (l : List Float). (clean a && clean b && clean c && clean d) && allFinite l) (ap (λ (n : ℕ). drop n s) e ∙ drop-length s)) ∙ k .told

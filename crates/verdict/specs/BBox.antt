@@ -81,16 +81,16 @@ unfoldable pub extended : BBox3d → BBox3d → Mat4d → BBox3d
 extended a b inverse = box (union (a .range) (transformed (b .range) (product (b .matrix) inverse))) (a .matrix) (a .flag)
 
 -- what two volumes may differ by and pass for one: a millionth of the larger, and at least 1e-10
-abbrev pub tolerance : Float → Float → Float
-tolerance v w = maxOf (rounded 1 (10 ^ 6) ⊗ absOf (maxOf v w)) (rounded 1 (10 ^ 10))
+abbrev pub volumeTolerance : Float → Float → Float
+volumeTolerance v w = maxOf (rounded 1 (10 ^ 6) ⊗ absOf (maxOf v w)) (rounded 1 (10 ^ 10))
 
 -- "`combine` takes the first candidate if it is within the volume tolerance or smaller."
 abbrev pub preferred : Float → Float → Bool
-preferred v w = le (absOf (v ⊖ w)) (tolerance v w) || lt v w
+preferred v w = le (absOf (v ⊖ w)) (volumeTolerance v w) || lt v w
 
-unfoldable pub smaller : BBox3d → BBox3d → BBox3d
+unfoldable pub smallerBox : BBox3d → BBox3d → BBox3d
 unfolding volume
-smaller a b = cond (preferred (volume a) (volume b)) a b
+smallerBox a b = cond (preferred (volume a) (volume b)) a b
 
 abbrev pub aligned : BBox3d → BBox3d → BBox3d
 aligned a b = box (union (alignedRange a) (alignedRange b)) identity false
@@ -98,10 +98,10 @@ aligned a b = box (union (alignedRange a) (alignedRange b)) identity false
 -- Of two boxes whose ranges are not empty, with the inverses of their matrices. There is a candidate in the space of each that has an inverse, and of two the
 -- smaller is taken; where neither has one, the range is in the world.
 unfoldable pub merged : BBox3d → BBox3d → Inverse → Inverse → BBox3d
-unfolding extended smaller
+unfolding extended smallerBox
 merged a b i j =
     cond (i .exists)
-    (cond (j .exists) (smaller (extended a b (i .matrix)) (extended b a (j .matrix))) (extended a b (i .matrix)))
+    (cond (j .exists) (smallerBox (extended a b (i .matrix)) (extended b a (j .matrix))) (extended a b (i .matrix)))
     (cond (j .exists) (extended b a (j .matrix)) (aligned a b))
 
 -- where a range is empty it is the other box, and b where both are

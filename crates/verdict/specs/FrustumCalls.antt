@@ -5,7 +5,7 @@ use Prim.Native.Nat.{ℕ}
 use lib.Ieee.{Float}
 use Rattle.number.specs.Limits.{pointLength, matrixLength, boxLength}
 use Rattle.number.specs.Every.{every}
-use Rattle.number.specs.Answer.{Outcome, refused, result, unless, has}
+use Rattle.number.specs.Answer.{Outcome, refused, result, andThen, unless, has}
 use Rattle.number.specs.Slice.{allFinite}
 use Rattle.matrix.specs.Vec.{vec3Of}
 use Rattle.matrix.specs.Matrix.{matrixOf}
@@ -13,7 +13,7 @@ use Rattle.verdict.specs.declared.plane.Plane.{Plane}
 use Rattle.verdict.specs.declared.ray.Ray.{Ray}
 use Rattle.verdict.specs.BBox.{boxOf}
 use Rattle.verdict.specs.BBoxCalls.{flagged}
-use Rattle.verdict.specs.View.{andThen, planesHeld, planesOf, raysOf}
+use Rattle.verdict.specs.View.{planesHeld, planesOf, raysOf}
 use Rattle.verdict.specs.Frustum.{pointInView, segmentInView, triangleInView, boxInView, boxInViewVolume}
 
 -- ---- the order of the checks
@@ -24,20 +24,27 @@ haveLengths [] = true
 haveLengths ((n, s) ∷ inputs) = has n s && haveLengths inputs
 
 -- the records of the inputs
-abbrev pub recordsOf : List (ℕ × List Float) → List (List Float)
-recordsOf inputs = map (λ input. input .1) inputs
+abbrev pub inputRecords : List (ℕ × List Float) → List (List Float)
+inputRecords inputs = map (λ input. input .1) inputs
 
--- Of the five verdicts: lengths, what is held, "then 3 where a box occurs", then "any record holding a NaN or infinity", of all that are lent, "13 after
--- lengths, plane count and flags", and then the verdict by what is held.
+-- What comes of what is held, once all that is lent passes: room for the answer, else 2; its flags, "then 3 where a box occurs"; and its numbers, "any record
+-- holding a NaN or infinity" being "13 after lengths, plane count and flags".
+abbrev pub checked : {A B : Type 0} → Outcome A → Bool → Bool → Bool → (A → Outcome B) → Outcome B
+checked held room flags finite f = andThen held (λ x. unless room (refused 2) (unless flags (refused 3) (unless finite (refused 13) (f x))))
+
+-- how many planes a volume holds, once it and what is lent beside it pass
+unfoldable pub planesChecked : List Float → Bool → Bool → Bool → Outcome ℕ
+planesChecked v room flags finite = checked (planesHeld v) room flags (allFinite v && finite) result
+
+-- Of the five verdicts, for which no slice is lent: lengths, these checks of all that are lent, and then the verdict by what is held.
 unfoldable pub verdictAfter : {A : Type 0} → Bool → Outcome A → Bool → List (List Float) → (A → Bool) → Outcome Bool
-verdictAfter lengths held flag lent verdict =
-    unless lengths (refused 1) (andThen held (λ x. unless flag (refused 3) (unless (every allFinite lent) (refused 13) (result (verdict x)))))
+verdictAfter lengths held flag lent verdict = unless lengths (refused 1) (checked held true flag (every allFinite lent) (λ x. result (verdict x)))
 
 -- Of those by a volume: "1 for a volume below 49 numbers or any other input of the wrong length", the volume's later checks, "then document 01's later
 -- checks", and then the verdict by its planes and rays.
 unfoldable pub verdictBy : List Float → List (ℕ × List Float) → Bool → (List Plane → List Ray → Bool) → Outcome Bool
 unfolding haveLengths verdictAfter
-verdictBy v others flag verdict = verdictAfter (haveLengths others) (planesHeld v) flag (v ∷ recordsOf others) (λ n. verdict (planesOf v n) (raysOf v n))
+verdictBy v others flag verdict = verdictAfter (haveLengths others) (planesHeld v) flag (v ∷ inputRecords others) (λ n. verdict (planesOf v n) (raysOf v n))
 
 -- ---- the verdicts: "Point, segment and box verdicts use all planes."
 
@@ -62,4 +69,4 @@ unfoldable pub viewVolumeCall : List Float → List Float → Outcome Bool
 unfolding haveLengths verdictAfter
 viewVolumeCall b m =
     let inputs : List (ℕ × List Float) = (boxLength, b) ∷ (matrixLength, m) ∷ [] in
-    verdictAfter (haveLengths inputs) (result (boxOf b)) (flagged b) (recordsOf inputs) (λ x. boxInViewVolume x (matrixOf m))
+    verdictAfter (haveLengths inputs) (result (boxOf b)) (flagged b) (inputRecords inputs) (λ x. boxInViewVolume x (matrixOf m))

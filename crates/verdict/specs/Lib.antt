@@ -9,6 +9,8 @@ pub mod View
 pub mod Rows
 pub mod Frustum
 pub mod FrustumCalls
+pub mod PlanesBehind
+pub mod PlanesMeaning
 pub mod FiniteNumbers
 pub mod SideBySide
 pub mod Marked

@@ -50,19 +50,19 @@ transformed m r = ray (transformedPoint m (r .start)) (direction m (r .direction
 -- ---- where it meets a plane
 
 -- how much the ray runs along the normal
-abbrev pub facing : Ray → Plane → Float
-facing r p = dot (r .direction) (p .normal)
+abbrev pub alongNormal : Ray → Plane → Float
+alongNormal r p = dot (r .direction) (p .normal)
 
 -- where the ray has come as far along the normal as the point that is normal times distance, through which a plane of unit normal goes
 abbrev pub distanceAlong : Ray → Plane → Float
-distanceAlong r p = dot (difference (multiple (p .normal) (p .distance)) (r .start)) (p .normal) ⊘ facing r p
+distanceAlong r p = dot (difference (multiple (p .normal) (p .distance)) (r .start)) (p .normal) ⊘ alongNormal r p
 
 -- "`intersect_plane` misses if |facing| < 1e-10: 9e-11 misses, 1e-10 goes on. Distance zero hits." The front is the positive side: a ray that meets it runs
 -- against the normal.
 unfoldable pub planeHit : Ray → Plane → PlaneHit
 planeHit r p =
-    cond (lt (absOf (facing r p)) minLength) Miss
-    (cond (le positiveZero (distanceAlong r p)) (At (distanceAlong r p) (lt (facing r p) positiveZero)) Miss)
+    cond (lt (absOf (alongNormal r p)) minLength) Miss
+    (cond (le positiveZero (distanceAlong r p)) (At (distanceAlong r p) (lt (alongNormal r p) positiveZero)) Miss)
 
 -- ---- where it meets a triangle
 
@@ -123,12 +123,12 @@ triangleOf p0 p1 p2 =
     let a = faced (p .normal) in
     record { plane = p; first = p0; axis = a; second = projected a (difference p1 p0); third = projected a (difference p2 p0) }
 
-abbrev pub within : PlaneHit → Ray → Triangle → Meeting
-within (At d front) r t = weighed d front (projected (t .axis) (difference (pointAt r d) (t .first))) (t .second) (t .third)
-within Miss r t = noMeeting
+abbrev pub meetingAt : PlaneHit → Ray → Triangle → Meeting
+meetingAt (At d front) r t = weighed d front (projected (t .axis) (difference (pointAt r d) (t .first))) (t .second) (t .third)
+meetingAt Miss r t = noMeeting
 
 unfoldable pub meetingOf : Ray → Triangle → Meeting
-meetingOf r t = within (planeHit r (t .plane)) r t
+meetingOf r t = meetingAt (planeHit r (t .plane)) r t
 
 -- the answer: the numbers of a hit, or the miss
 abbrev pub hitIn : Meeting → TriangleHit

@@ -8,10 +8,11 @@ use lib.Ieee.{Float}
 use Rattle.number.specs.Limits.{planeLength, mostPlanes}
 use Rattle.number.specs.Answer.{Outcome, refused, result, unless, has}
 use Rattle.number.specs.Slice.{at}
+use Rattle.number.specs.Tabulate.{tabulate}
 use Rattle.matrix.specs.Vec.{vec3}
 use Rattle.verdict.specs.declared.plane.Plane.{Plane}
 use Rattle.verdict.specs.Plane.{plane}
-use Rattle.verdict.specs.View.{planeStart, planeAt, tabulate}
+use Rattle.verdict.specs.View.{planeStart, planeAt}
 
 abbrev pub rowsLength : ℕ
 rowsLength = planeLength * mostPlanes
@@ -33,9 +34,9 @@ withPlanes v zero l = l
 withPlanes v (suc n) l = withPlane (withPlanes v n l) n (planeAt v n)
 
 -- What a slice holds that a record of so many planes is loaded into: these, if it has room for just the rows; else, and where the record is refused, what it held.
-abbrev pub loaded : Outcome ℕ → List Float → List Float → List Float
-loaded (result n) v l = unless (has rowsLength l) l (withPlanes v n l)
-loaded (refused k) v l = l
+abbrev pub rowsLoaded : Outcome ℕ → List Float → List Float → List Float
+rowsLoaded (result n) v l = unless (has rowsLength l) l (withPlanes v n l)
+rowsLoaded (refused k) v l = l
 
 -- plane i of the rows, and the first n of them
 abbrev pub planeInRows : List Float → ℕ → Plane

@@ -24,7 +24,7 @@ abbrev pub PlanesEqual : Type 0
 PlanesEqual = (v l : List Float) (n i : ℕ) → InRows v n l → i < n → planeInRows l i ≡ planeAt v i
 
 -- two lists of planes give one answer to every verdict
-pub record OneAnswer (ps qs : List Plane) : Type 0 where
+pub record SameVerdicts (ps qs : List Plane) : Type 0 where
   pub point : (p : Vec3d) → pointInView ps p ≡ pointInView qs p
   pub segment : (a b : Vec3d) → segmentInView ps a b ≡ segmentInView qs a b
   pub triangle : (rs : List Ray) (a b c : Vec3d) → triangleInView ps rs a b c ≡ triangleInView qs rs a b c
@@ -32,8 +32,8 @@ pub record OneAnswer (ps qs : List Plane) : Type 0 where
 
 -- "and that every point, segment, triangle and box verdict agrees"
 abbrev pub VerdictsAgree : Type 0
-VerdictsAgree = (v l : List Float) (n : ℕ) → InRows v n l → OneAnswer (planesInRows l n) (planesOf v n)
+VerdictsAgree = (v l : List Float) (n : ℕ) → InRows v n l → SameVerdicts (planesInRows l n) (planesOf v n)
 
 -- "Places beyond a volume's own count never affect a result": rows that agree on those of n planes give one answer, whatever else they hold, NaN included.
 abbrev pub BeyondUnread : Type 0
-BeyondUnread = (l k : List Float) (n : ℕ) → ((i j : ℕ) → i < n → j < planeLength → at l (rowPlace j i) ≡ at k (rowPlace j i)) → OneAnswer (planesInRows l n) (planesInRows k n)
+BeyondUnread = (l k : List Float) (n : ℕ) → ((i j : ℕ) → i < n → j < planeLength → at l (rowPlace j i) ≡ at k (rowPlace j i)) → SameVerdicts (planesInRows l n) (planesInRows k n)

@@ -1,13 +1,14 @@
 -- A view: planes that have it on their positive sides, and rays along its edges. Its record, which the papers call the volume, holds planes within limits:
 -- "a whole count first, the planes with the original six in front, then the four rays". What says where its numbers stand is here. Definitions only.
-use Prim.Native.Nat.{ℕ, zero, suc, _+_, _*_}
+use Prim.Native.Nat.{ℕ, _+_, _*_}
 use mathlib.Core.Bool.{Bool, _&&_}
-use mathlib.Core.List.{List, [], _∷_}
+use mathlib.Core.List.{List}
 use lib.Dec.{leb}
 use lib.ListN.{length, take, drop}
 use lib.Ieee.{Float, le, eq, toUnsigned}
 use Rattle.number.specs.Limits.{fewestPlanes, mostPlanes}
-use Rattle.number.specs.Answer.{Outcome, refused, result, unless, has, numberOf}
+use Rattle.number.specs.Answer.{Outcome, refused, result, andThen, unless, has, numberOf}
+use Rattle.number.specs.Tabulate.{tabulate}
 use Rattle.number.specs.Slice.{at}
 use Rattle.matrix.specs.Constants.{rounded}
 use Rattle.matrix.specs.Vec.{vec3}
@@ -53,11 +54,6 @@ isCount x = le (rounded fewestPlanes 1) x && le x (rounded mostPlanes 1) && eq x
 unfoldable pub planeCountOf : Float → Outcome ℕ
 planeCountOf x = unless (isCount x) (refused 12) (result (wholePart x))
 
--- what comes of a result; a refusal stays
-abbrev pub andThen : {A B : Type 0} → Outcome A → (A → Outcome B) → Outcome B
-andThen (refused k) f = refused k
-andThen (result x) f = f x
-
 -- How many planes a record holds: "1 for a volume below 49 numbers [..], then 12 for a count not whole or outside" its limits, "then 1 for another volume length".
 unfoldable pub planesHeld : List Float → Outcome ℕ
 unfolding planeCountOf
@@ -71,11 +67,6 @@ heldOf (Planes n) = result n
 heldOf (Refused r) = refused (numberOf r)
 
 -- ---- its planes and its rays
-
--- the values of f at 0, 1, .. below n
-unfoldable pub tabulate : {A : Type 0} → (ℕ → A) → ℕ → List A
-tabulate f zero = []
-tabulate f (suc n) = f 0 ∷ tabulate (λ i. f (suc i)) n
 
 abbrev pub planeAt : List Float → ℕ → Plane
 planeAt s i = let from = planeStart i in plane (vec3 (λ j. at s (from + j))) (at s (from + 3))

@@ -3,7 +3,7 @@ ghost use mathlib.Core.Path.{_≡_};
 ghost use mathlib.Core.Bool.{_||_};
 ghost use lib.ListN.{length};
 ghost use Rattle.number.specs.Slice.{stored};
-ghost use Rattle.verdict.specs.BBox.{flagOf, isFlag, numbers, boxOf, intoBox, isDegenerate, alignedRange, centroid, volume, transformedBox, extended, preferred, smaller, aligned, merged, held, combined};
+ghost use Rattle.verdict.specs.BBox.{flagOf, isFlag, numbers, boxOf, intoBox, isDegenerate, alignedRange, centroid, volume, transformedBox, extended, preferred, smallerBox, aligned, merged, held, combined};
 use crate::record::vec3_at;
 use crate::record::vec4_at;
 use matrix::inverse::Inverted;
@@ -11,6 +11,7 @@ use matrix::matrix::Mat4d;
 use matrix::range::Range3d;
 use matrix::vec::Vec3d;
 use matrix::vec::Vec4d;
+use number::limits::BOX_LENGTH;
 use number::order;
 use number::slice;
 use number::slice::at;
@@ -148,7 +149,7 @@ impl BBox3d {
     }
 
     fn smaller(self, other: BBox3d) -> BBox3d
-        ensures { λ r. ⌜ r ≡ smaller self other ⌝ }
+        ensures { λ r. ⌜ r ≡ smallerBox self other ⌝ }
     {
         if preferred(self.volume(), other.volume()) {
             return self;
@@ -237,7 +238,7 @@ impl BBox3d {
     pub fn from_record(s: &[f64]) -> BBox3d
         ensures { λ r. ⌜ r ≡ boxOf (now (s .entry)) ⌝ }
     {
-        if s.len() == 23 {
+        if s.len() == BOX_LENGTH {
             return BBox3d::load(s);
         }
         BBox3d {

@@ -5,17 +5,20 @@ ghost use Rattle.verdict.specs.FrustumCalls.{intersectsPointCall, inters
 use crate::bbox::BBox3d;
 use crate::bbox::is_flag;
 use crate::clip;
-use crate::finite::all_numbers_finite;
 use crate::frustum;
 use crate::rows::ROWS_LENGTH;
-use crate::rows::load;
+use crate::rows::gather;
 use crate::triangle;
 use crate::view::Held;
-use crate::view::planes_held;
+use crate::view::checked;
 use matrix::matrix::Mat4d;
 use matrix::vec::Vec3d;
 use number::answer::Refusal;
 use number::answer::Verdict;
+use number::limits::BOX_LENGTH;
+use number::limits::FLAG_PLACE;
+use number::limits::MATRIX_LENGTH;
+use number::limits::POINT_LENGTH;
 use number::slice::all_finite;
 use number::slice::at;
 
@@ -23,14 +26,11 @@ use number::slice::at;
 pub fn intersects_point(volume: &[f64], p: &[f64]) -> Verdict
     ensures { λ r. ⌜ verdictOf r ≡ intersectsPointCall (now (volume .entry)) (now (p .entry)) ⌝ }
 {
-    if p.len() != 3 {
+    if p.len() != POINT_LENGTH {
         return Verdict::Refused(Refusal::InputLength);
     }
-    match planes_held(volume) {
+    match checked(volume, true, true, all_finite(p)) {
         Held::Planes(count) => {
-            if !(all_numbers_finite(volume, count) & all_finite(p)) {
-                return Verdict::Refused(Refusal::MissingNumber);
-            }
             Verdict::of(frustum::intersects_point(volume, count, Vec3d::load(p)))
         }
         Held::Refused(refusal) => Verdict::Refused(refusal),
@@ -41,21 +41,16 @@ pub fn intersects_point(volume: &[f64], p: &[f64]) -> Verdict
 pub fn intersects_segment(volume: &[f64], p0: &[f64], p1: &[f64]) -> Verdict
     ensures { λ r. ⌜ verdictOf r ≡ intersectsSegmentCall (now (volume .entry)) (now (p0 .entry)) (now (p1 .entry)) ⌝ }
 {
-    if !((p0.len() == 3) & (p1.len() == 3)) {
+    if !((p0.len() == POINT_LENGTH) & (p1.len() == POINT_LENGTH)) {
         return Verdict::Refused(Refusal::InputLength);
     }
-    match planes_held(volume) {
-        Held::Planes(count) => {
-            if !(all_numbers_finite(volume, count) & (all_finite(p0) & all_finite(p1))) {
-                return Verdict::Refused(Refusal::MissingNumber);
-            }
-            Verdict::of(frustum::intersects_segment(
-                volume,
-                count,
-                Vec3d::load(p0),
-                Vec3d::load(p1),
-            ))
-        }
+    match checked(volume, true, true, all_finite(p0) & all_finite(p1)) {
+        Held::Planes(count) => Verdict::of(frustum::intersects_segment(
+            volume,
+            count,
+            Vec3d::load(p0),
+            Vec3d::load(p1),
+        )),
         Held::Refused(refusal) => Verdict::Refused(refusal),
     }
 }
@@ -64,18 +59,18 @@ pub fn intersects_segment(volume: &[f64], p0: &[f64], p1: &[f64]) -> Verdict
 pub fn intersects_bbox(volume: &[f64], bbox: &[f64]) -> Verdict
     ensures { λ r. ⌜ verdictOf r ≡ intersectsBoxCall (now (volume .entry)) (now (bbox .entry)) ⌝ }
 {
-    if bbox.len() != 23 {
+    if bbox.len() != BOX_LENGTH {
         return Verdict::Refused(Refusal::InputLength);
     }
     let mut rows = [0.0f64; ROWS_LENGTH];
-    match load(volume, &mut rows) {
+    match checked(
+        volume,
+        true,
+        is_flag(at(bbox, FLAG_PLACE)),
+        all_finite(bbox),
+    ) {
         Held::Planes(count) => {
-            if !is_flag(at(bbox, 22)) {
-                return Verdict::Refused(Refusal::Kind);
-            }
-            if !(all_numbers_finite(volume, count) & all_finite(bbox)) {
-                return Verdict::Refused(Refusal::MissingNumber);
-            }
+            gather(volume, count, &mut rows);
             Verdict::of(frustum::intersects_record(&rows, count, bbox))
         }
         Held::Refused(refusal) => Verdict::Refused(refusal),
@@ -86,23 +81,22 @@ pub fn intersects_bbox(volume: &[f64], bbox: &[f64]) -> Verdict
 pub fn intersects_triangle(volume: &[f64], p0: &[f64], p1: &[f64], p2: &[f64]) -> Verdict
     ensures { λ r. ⌜ verdictOf r ≡ intersectsTriangleCall (now (volume .entry)) (now (p0 .entry)) (now (p1 .entry)) (now (p2 .entry)) ⌝ }
 {
-    if !((p0.len() == 3) & (p1.len() == 3) & (p2.len() == 3)) {
+    if !((p0.len() == POINT_LENGTH) & (p1.len() == POINT_LENGTH) & (p2.len() == POINT_LENGTH)) {
         return Verdict::Refused(Refusal::InputLength);
     }
-    match planes_held(volume) {
-        Held::Planes(count) => {
-            if !(all_numbers_finite(volume, count)
-                & (all_finite(p0) & (all_finite(p1) & all_finite(p2)))) {
-                return Verdict::Refused(Refusal::MissingNumber);
-            }
-            Verdict::of(triangle::intersects_triangle(
-                volume,
-                count,
-                Vec3d::load(p0),
-                Vec3d::load(p1),
-                Vec3d::load(p2),
-            ))
-        }
+    match checked(
+        volume,
+        true,
+        true,
+        all_finite(p0) & (all_finite(p1) & all_finite(p2)),
+    ) {
+        Held::Planes(count) => Verdict::of(triangle::intersects_triangle(
+            volume,
+            count,
+            Vec3d::load(p0),
+            Vec3d::load(p1),
+            Vec3d::load(p2),
+        )),
         Held::Refused(refusal) => Verdict::Refused(refusal),
     }
 }
@@ -111,13 +105,10 @@ pub fn intersects_triangle(volume: &[f64], p0: &[f64], p1: &[f64], p2: &[f64]) -
 pub fn intersects_view_volume(b: &[f64], m: &[f64]) -> Verdict
     ensures { λ r. ⌜ verdictOf r ≡ viewVolumeCall (now (b .entry)) (now (m .entry)) ⌝ }
 {
-    if b.len() != 23 {
+    if !((b.len() == BOX_LENGTH) & (m.len() == MATRIX_LENGTH)) {
         return Verdict::Refused(Refusal::InputLength);
     }
-    if m.len() != 16 {
-        return Verdict::Refused(Refusal::InputLength);
-    }
-    if !is_flag(at(b, 22)) {
+    if !is_flag(at(b, FLAG_PLACE)) {
         return Verdict::Refused(Refusal::Kind);
     }
     if !(all_finite(b) & all_finite(m)) {

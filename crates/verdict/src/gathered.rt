@@ -4,7 +4,7 @@ ghost use Rattle.matrix.specs.Constants.{positiveZero, one};
 ghost use Rattle.verdict.specs.View.{planesOf};
 ghost use Rattle.verdict.specs.Steps.Passes.{HasPlanes, sidesOf};
 ghost use Rattle.verdict.specs.Frustum.{pointInView, spanLeft};
-use crate::frustum;
+use crate::passes;
 use crate::rows::ROWS_LENGTH;
 use crate::rows::gather;
 use matrix::vec::Vec3d;
@@ -16,7 +16,7 @@ pub(crate) fn holds_point(view: &[f64], count: u32, p: Vec3d) -> bool
 {
     let mut rows = [0.0f64; ROWS_LENGTH];
     gather(view, count, &mut rows);
-    frustum::holds_point(&rows, count, p)
+    passes::holds_point(&rows, count, p)
 }
 
 // Of the first planes those that have a point on their positive side, a bit for each.
@@ -26,7 +26,7 @@ pub(crate) fn sides(view: &[f64], count: u32, p: Vec3d) -> u64
 {
     let mut rows = [0.0f64; ROWS_LENGTH];
     gather(view, count, &mut rows);
-    frustum::sides_within(&rows, count, p)
+    passes::sides_within(&rows, count, p)
 }
 
 // The same for both ends of a segment.
@@ -41,8 +41,8 @@ pub(crate) fn end_sides(view: &[f64], count: u32, a: Vec3d, b: Vec3d) -> EndSide
 {
     let mut rows = [0.0f64; ROWS_LENGTH];
     gather(view, count, &mut rows);
-    let a_sides = frustum::sides_within(&rows, count, a);
-    let b_sides = frustum::sides_within(&rows, count, b);
+    let a_sides = passes::sides_within(&rows, count, a);
+    let b_sides = passes::sides_within(&rows, count, b);
     EndSides {
         a: a_sides,
         b: b_sides,
@@ -63,5 +63,5 @@ pub(crate) fn span_left(
 {
     let mut rows = [0.0f64; ROWS_LENGTH];
     gather(view, count, &mut rows);
-    frustum::span_left(&rows, count, a, a_sides, b, b_sides)
+    passes::span_left(&rows, count, a, a_sides, b, b_sides)
 }

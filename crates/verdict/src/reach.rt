@@ -16,12 +16,12 @@ const SHORT: f64 = 1e-9;
 const LONG: f64 = 1e18;
 
 // Bounds of the size of what is added up.
-const LEAST: f64 = 1e-90;
+const LEAST_SIZE: f64 = 1e-90;
 
-const MOST: f64 = 1e90;
+const MOST_SIZE: f64 = 1e90;
 
 // The part of that size that the error is less than.
-const ERROR: f64 = 1e-11;
+const PART: f64 = 1e-11;
 
 // A range's numbers in size, added up.
 pub(crate) fn extent(range: Range3d) -> f64
@@ -58,12 +58,12 @@ fn filter(equation: Vec4d, range: Range3d, extent: f64) -> Filtered
     let size = extent * (3.0 + square) + abs(equation.w);
     Filtered {
         estimate: x + y + z + equation.w,
-        error: size * ERROR,
+        error: size * PART,
         trusted: (extent < LONG)
             & (SHORT * SHORT < square)
             & (square < LONG * LONG)
-            & (LEAST < size)
-            & (size < MOST),
+            & (LEAST_SIZE < size)
+            & (size < MOST_SIZE),
     }
 }
 

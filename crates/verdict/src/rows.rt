@@ -5,7 +5,7 @@ ghost use Prim.Native.Nat.{_<_};
 ghost use lib.ListN.{length};
 ghost use Rattle.number.specs.Limits.{mostPlanes};
 ghost use Rattle.verdict.specs.View.{heldOf, planesHeld};
-ghost use Rattle.verdict.specs.Rows.{rowsLength, planeInRows, withPlanes, loaded};
+ghost use Rattle.verdict.specs.Rows.{rowsLength, planeInRows, withPlanes, rowsLoaded};
 ghost use Rattle.verdict.specs.Steps.Passes.{HasPlanes};
 use crate::plane::Plane;
 use crate::view::Held;
@@ -61,7 +61,7 @@ pub(crate) fn gather(view: &[f64], count: u32, rows: &mut [f64])
 
 // How many planes a record holds, by its count and its length, and these to their places. A record that is refused leaves the rows alone.
 pub fn load(volume: &[f64], rows: &mut [f64]) -> Held
-    ensures { λ r. ⌜ (heldOf r ≡ planesHeld (now (volume .entry))) × (now (rows .exit) ≡ loaded (planesHeld (now (volume .entry))) (now (volume .entry)) (now (rows .entry))) ⌝ }
+    ensures { λ r. ⌜ (heldOf r ≡ planesHeld (now (volume .entry))) × (now (rows .exit) ≡ rowsLoaded (planesHeld (now (volume .entry))) (now (volume .entry)) (now (rows .entry))) ⌝ }
 {
     match planes_held(volume) {
         Held::Planes(count) => {

@@ -5,7 +5,9 @@ ghost use Prim.Native.Nat.{_+_, _<_, _≤_};
 ghost use lib.ListN.{length};
 ghost use Rattle.number.specs.Limits.{mostPlanes};
 ghost use Rattle.verdict.specs.View.{rayCount, planeStart, rayStart, volumeLength, heldOf, planeCountOf, planesHeld, planeAt, rayAt};
+ghost use Rattle.verdict.specs.FrustumCalls.{planesChecked};
 ghost use Rattle.verdict.specs.Steps.Passes.{allPlanes};
+use crate::finite::all_numbers_finite;
 use crate::plane::Plane;
 use crate::ray::Ray;
 use crate::record::vec3_at;
@@ -83,6 +85,28 @@ pub fn planes_held(volume: &[f64]) -> Held
         Held::Planes(count) => {
             if volume.len() != volume_length(count) {
                 return Held::Refused(Refusal::InputLength);
+            }
+            Held::Planes(count)
+        }
+        Held::Refused(refusal) => Held::Refused(refusal),
+    }
+}
+
+// How many planes a volume holds, once all that is lent passes: its count and its length, then room for the answer, the flags of the boxes
+// beside it, and every number, its own and those beside it. What a call does not lend passes.
+pub fn checked(volume: &[f64], room: bool, flags: bool, finite: bool) -> Held
+    ensures { λ r. ⌜ heldOf r ≡ planesChecked (now (volume .entry)) room flags finite ⌝ }
+{
+    match planes_held(volume) {
+        Held::Planes(count) => {
+            if !room {
+                return Held::Refused(Refusal::OutputLength);
+            }
+            if !flags {
+                return Held::Refused(Refusal::Kind);
+            }
+            if !(all_numbers_finite(volume, count) & finite) {
+                return Held::Refused(Refusal::MissingNumber);
             }
             Held::Planes(count)
         }

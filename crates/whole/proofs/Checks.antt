@@ -11,7 +11,7 @@ use Rattle.number.specs.Limits.{pointLength, fewestPlanes, mostPlanes}
 use Rattle.number.specs.Answer.{Outcome, refused, result, unless, has}
 use Rattle.number.proofs.Ways.{both, stops, passes}
 use Rattle.whole.specs.Segment.{segmentInView}
-use Rattle.whole.specs.SegmentCall.{numberAt, pointOf, planesOf, viewLength, countOf, permitted, onGrid, wholeSegmentCall}
+use Rattle.whole.specs.SegmentCall.{numberAt, pointOf, planesOf, viewLength, countOf, permitted, segmentOnGrid, wholeSegmentCall}
 
 module _ (view p0 p1 : List ℤ) where
   -- the tests behind the first, of a view that says it has k planes
@@ -19,7 +19,7 @@ module _ (view p0 p1 : List ℤ) where
   after k =
       unless (permitted k) (refused 12)
       (unless (has (viewLength k) view) (refused 1)
-      (unless (onGrid (planesOf view k) (pointOf p0) (pointOf p1)) (refused 7)
+      (unless (segmentOnGrid (planesOf view k) (pointOf p0) (pointOf p1)) (refused 7)
       (result (segmentInView (planesOf view k) (pointOf p0) (pointOf p1)))))
 
   -- the lengths of the ends, and of the shortest view
@@ -59,7 +59,7 @@ module _ (view p0 p1 : List ℤ) where
           -- the count holds
           module _ (o : k ≤ mostPlanes) where
             abbrev grid : Bool
-            grid = onGrid (planesOf view k) (pointOf p0) (pointOf p1)
+            grid = segmentOnGrid (planesOf view k) (pointOf p0) (pointOf p1)
 
             abbrev verdict : Bool
             verdict = segmentInView (planesOf view k) (pointOf p0) (pointOf p1)

@@ -1,4 +1,4 @@
--- How far in front of a plane a point lies, as the machine computes it: on the grid no product and no sum overflows, and the distance is at most `farthest` in size.
+-- How far in front of a plane a point lies, as the machine computes it: on the grid no product and no sum overflows, and the distance is at most `gapLimit` in size.
 -- Assumes nothing.
 use mathlib.Core.Path.{_≡_, sym, subst, _∙_}
 use mathlib.Core.Bool.{true}
@@ -13,7 +13,7 @@ use mir.Val.{SFits, toZ, ofZ}
 use Rattle.number.specs.Limits.{gridLimit, normalLimit, distanceLimit}
 use Rattle.whole.specs.Plane.{WholePlane, gap}
 use Rattle.whole.specs.SegmentCall.{numberAt, pointOf, planeStart, planeAt, pointWithin, planeWithin}
-use Rattle.whole.specs.Steps.{farthest, widest}
+use Rattle.whole.specs.Steps.{gapLimit, widest}
 use Rattle.whole.proofs.Integer.{of-self, of-sum, of-minus, of-times, of-eq, abs-sum, abs-minus, abs-times}
 use Rattle.whole.proofs.Registers.{Held, held-fits, read, widened, widens, held-times, held-sum, held-minus}
 use Rattle.whole.proofs.Limits.{point-sizes, plane-sizes}
@@ -62,18 +62,18 @@ module _ (a b c d x y z : ℤ)
   abbrev whole : ℤ
   whole = toZ w64 (ofZ w64 (twoRead +ℤ toZ w64 (ofZ w64 (wide c *ℤ wide z)))) -ℤ wide d
 
-  all : Held whole (a *ℤ x +ℤ b *ℤ y +ℤ c *ℤ z -ℤ d) farthest
+  all : Held whole (a *ℤ x +ℤ b *ℤ y +ℤ c *ℤ z -ℤ d) gapLimit
   all = held-minus (read w64 three (lit< tt)) (widened d distanceLimit D (lit< tt) (lit< tt))
 
   pub all-fit : SFits w64 whole
   all-fit = held-fits w64 all (lit< tt)
 
-  pub all-is : Held (toZ w64 (ofZ w64 whole)) (a *ℤ x +ℤ b *ℤ y +ℤ c *ℤ z -ℤ d) farthest
+  pub all-is : Held (toZ w64 (ofZ w64 whole)) (a *ℤ x +ℤ b *ℤ y +ℤ c *ℤ z -ℤ d) gapLimit
   all-is = read w64 all (lit< tt)
 
 -- ---- a plane and a point of the grid
 
-pub gap-far : (P : WholePlane) (A : ℕ → ℤ) → planeWithin P ≡ true → pointWithin A ≡ true → natAbs (gap P A) ≤ farthest
+pub gap-far : (P : WholePlane) (A : ℕ → ℤ) → planeWithin P ≡ true → pointWithin A ≡ true → natAbs (gap P A) ≤ gapLimit
 gap-far P A e f =
     let p = plane-sizes P e in
     let q = point-sizes A f in
@@ -117,7 +117,7 @@ gap-wide P A B e f g =
     subst (λ (w : ℤ). natAbs w ≤ widest) (sym m) s
 
 -- a distance that was computed, read again
-pub gap-read : (P : WholePlane) (A : ℕ → ℤ) (u : ℤ) → u ≡ gap P A → planeWithin P ≡ true → pointWithin A ≡ true → Held (toZ w64 (ofZ w64 u)) (gap P A) farthest
+pub gap-read : (P : WholePlane) (A : ℕ → ℤ) (u : ℤ) → u ≡ gap P A → planeWithin P ≡ true → pointWithin A ≡ true → Held (toZ w64 (ofZ w64 u)) (gap P A) gapLimit
 gap-read P A u e h k = read w64 (record { is = e; size = gap-far P A h k }) (lit< tt)
 
 -- ---- plane i of a view, read from the place where it begins, and a point

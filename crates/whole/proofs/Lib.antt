@@ -4,7 +4,6 @@ pub mod Dot
 pub mod Registers
 pub mod Limits
 pub mod Gaps
-pub mod Planes
 pub mod Spans
 pub mod Leaves
 pub mod Checks

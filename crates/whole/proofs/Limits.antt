@@ -15,7 +15,7 @@ use Rattle.number.specs.Limits.{gridLimit, normalLimit, distanceLimit}
 use Rattle.number.specs.Every.{every}
 use Rattle.number.proofs.Tests.{both-hold, and-true}
 use Rattle.whole.specs.Plane.{WholePlane}
-use Rattle.whole.specs.SegmentCall.{countOf, within, pointWithin, planeWithin, onGrid}
+use Rattle.whole.specs.SegmentCall.{countOf, within, pointWithin, planeWithin, segmentOnGrid}
 
 pub within-is : (n : ℕ) (z : ℤ) → (leZ (negℤ (pos n)) z && leZ z (pos n)) ≡ within n z
 within-is zero (pos a) = ap (λ (t : Bool). t && leb a 0) (le-leb 0 a zero-le)
@@ -52,7 +52,7 @@ module _ (A : ℕ → ℤ) (e : pointWithin A ≡ true) where
       let k = both-hold (within gridLimit (A 0)) (within gridLimit (A 1)) (h .0) in
       (leb-true _ _ (k .0), leb-true _ _ (k .1), leb-true _ _ (h .1))
 
-module _ (Ps : List WholePlane) (A B : ℕ → ℤ) (e : onGrid Ps A B ≡ true) where
+module _ (Ps : List WholePlane) (A B : ℕ → ℤ) (e : segmentOnGrid Ps A B ≡ true) where
   pub grid-parts : (pointWithin A ≡ true) × (pointWithin B ≡ true) × (every planeWithin Ps ≡ true)
   grid-parts =
       let h = both-hold (pointWithin A && pointWithin B) (every planeWithin Ps) e in

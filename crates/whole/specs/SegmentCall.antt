@@ -1,14 +1,15 @@
 -- What the segment engine over signed 32-bit whole numbers answers, in the numbers of the papers. Definitions only.
 -- "Its view is a count of planes, then four numbers for each plane, without rays. It accepts the farm-grid limits and every plane count then permitted."
-use Prim.Native.Nat.{ℕ, zero, suc, _+_, _*_}
+use Prim.Native.Nat.{ℕ, _+_, _*_}
 use mathlib.Core.Bool.{Bool, _&&_}
-use mathlib.Core.List.{List, [], _∷_}
+use mathlib.Core.List.{List}
 use lib.Dec.{leb}
 use lib.ListN.{length, getD}
 use lib.IntN.{ℤ, pos, negsuc, natAbs}
 use Rattle.number.specs.Limits.{pointLength, planeLength, gridLimit, normalLimit, distanceLimit, fewestPlanes, mostPlanes}
 use Rattle.number.specs.Answer.{Outcome, refused, result, unless, has}
 use Rattle.number.specs.Every.{every}
+use Rattle.number.specs.Tabulate.{tabulate}
 use Rattle.whole.specs.Plane.{WholePlane}
 use Rattle.whole.specs.Segment.{segmentInView}
 
@@ -30,14 +31,9 @@ planeStart i = 1 + i * planeLength
 abbrev pub planeAt : List ℤ → ℕ → WholePlane
 planeAt s i = let from = planeStart i in record { normal = λ j. numberAt s (from + j); distance = numberAt s (from + 3) }
 
--- n planes of a view, from plane i on
-unfoldable pub planesFrom : List ℤ → ℕ → ℕ → List WholePlane
-planesFrom s i zero = []
-planesFrom s i (suc n) = planeAt s i ∷ planesFrom s (i + 1) n
-
 -- the first n planes
 abbrev pub planesOf : List ℤ → ℕ → List WholePlane
-planesOf s n = planesFrom s 0 n
+planesOf s n = tabulate (planeAt s) n
 
 -- how many numbers a view of n planes has
 abbrev pub viewLength : ℕ → ℕ
@@ -66,8 +62,8 @@ abbrev pub planeWithin : WholePlane → Bool
 planeWithin P = within normalLimit (P .normal 0) && within normalLimit (P .normal 1) && within normalLimit (P .normal 2) && within distanceLimit (P .distance)
 
 -- both ends and all planes
-abbrev pub onGrid : List WholePlane → (ℕ → ℤ) → (ℕ → ℤ) → Bool
-onGrid Ps A B = pointWithin A && pointWithin B && every planeWithin Ps
+abbrev pub segmentOnGrid : List WholePlane → (ℕ → ℤ) → (ℕ → ℤ) → Bool
+segmentOnGrid Ps A B = pointWithin A && pointWithin B && every planeWithin Ps
 
 -- ---- the call
 
@@ -81,5 +77,5 @@ wholeSegmentCall view p0 p1 =
     unless (has pointLength p0 && has pointLength p1 && leb (viewLength fewestPlanes) (length view)) (refused 1)
     (unless (permitted n) (refused 12)
     (unless (has (viewLength n) view) (refused 1)
-    (unless (onGrid Ps (pointOf p0) (pointOf p1)) (refused 7)
+    (unless (segmentOnGrid Ps (pointOf p0) (pointOf p1)) (refused 7)
     (result (segmentInView Ps (pointOf p0) (pointOf p1))))))

@@ -8,8 +8,8 @@ use Rattle.whole.specs.Segment.{startBy, endBy}
 use Rattle.whole.specs.declared.fraction.Span.{Span}
 
 -- A distance is at most 3 * 128 * 65,536 + 16,777,216 in size.
-abbrev pub farthest : ℕ
-farthest = 41_943_040
+abbrev pub gapLimit : ℕ
+gapLimit = 41_943_040
 
 -- Along a segment it changes by at most 3 * 128 * 131,072.
 abbrev pub widest : ℕ
@@ -17,7 +17,7 @@ widest = 50_331_648
 
 -- What a crossing is made of: its top is a distance, and its bottom what the distance changes by. So a cross product is below 2 ^ 51, and 64 bits carry it.
 pub record Small (f : Fraction) : Type 0 where
-  pub top : f .top ≤ farthest
+  pub top : f .top ≤ gapLimit
   pub bottom : f .bottom ≤ widest
 
 abbrev pub CrossProducts : Type 0
@@ -25,8 +25,8 @@ CrossProducts = (f g : Fraction) → Small f → Small g → f .top * g .bottom 
 
 -- the two ends' distances from a plane
 pub record Ends (D D' : ℤ) : Type 0 where
-  pub first : natAbs D ≤ farthest
-  pub second : natAbs D' ≤ farthest
+  pub first : natAbs D ≤ gapLimit
+  pub second : natAbs D' ≤ gapLimit
   pub apart : natAbs (D' -ℤ D) ≤ widest
 
 pub record SmallSpan (s : Span) : Type 0 where

@@ -4,7 +4,7 @@ ghost use Prim.Native.Nat.{_≤_};
 ghost use lib.IntN.{natAbs};
 ghost use lib.Signed.{nonNeg};
 ghost use Rattle.whole.specs.Segment.{less, crossingAt};
-ghost use Rattle.whole.specs.Steps.{farthest, Small, Ends, SmallSpan, CutBy};
+ghost use Rattle.whole.specs.Steps.{gapLimit, Small, Ends, SmallSpan, CutBy};
 
 pub struct Fraction {
     pub top: u64,
@@ -20,7 +20,7 @@ pub(crate) fn in_front(distance: i64) -> bool
 
 // The size of a distance.
 fn size(distance: i64) -> u64
-    requires { ⌜ natAbs distance ≤ farthest ⌝ }
+    requires { ⌜ natAbs distance ≤ gapLimit ⌝ }
     ensures { λ r. ⌜ r ≡ natAbs distance ⌝ }
 {
     if distance < 0 {
@@ -31,7 +31,7 @@ fn size(distance: i64) -> u64
 
 // How far along a segment crosses a plane that its ends lie at these distances from, on different sides.
 fn crossing(first: i64, second: i64) -> Fraction
-    requires { ⌜ (natAbs first ≤ farthest) × (natAbs second ≤ farthest) ⌝ }
+    requires { ⌜ (natAbs first ≤ gapLimit) × (natAbs second ≤ gapLimit) ⌝ }
     ensures { λ r. ⌜ r ≡ crossingAt first second ⌝ }
 {
     let top = size(first);

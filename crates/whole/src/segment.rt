@@ -3,9 +3,10 @@ ghost use mathlib.Core.Path.{_≡_};
 ghost use mathlib.Core.Bool.{true};
 ghost use Prim.Native.Nat.{_≤_};
 ghost use lib.ListN.{length};
+ghost use Rattle.number.specs.Limits.{pointLength};
 ghost use Rattle.number.specs.Answer.{verdictOf};
 ghost use Rattle.whole.specs.Segment.{segmentInView};
-ghost use Rattle.whole.specs.SegmentCall.{pointOf, planesOf, viewLength, onGrid, wholeSegmentCall};
+ghost use Rattle.whole.specs.SegmentCall.{pointOf, planesOf, viewLength, segmentOnGrid, wholeSegmentCall};
 use crate::fraction::Fraction;
 use crate::fraction::Span;
 use crate::fraction::in_front;
@@ -22,8 +23,8 @@ use number::limits::POINT_LENGTH;
 
 // Whether some of a segment is in front of every plane, of numbers on the grid.
 fn segment_in_view(view: &[i32], count: u32, p0: &[i32], p1: &[i32]) -> bool
-    requires { ⌜ (viewLength count ≤ length (now view)) × (length (now p0) ≡ 3) × (length (now p1) ≡ 3)
-        × (onGrid (planesOf (now view) count) (pointOf (now p0)) (pointOf (now p1)) ≡ true) ⌝ }
+    requires { ⌜ (viewLength count ≤ length (now view)) × (length (now p0) ≡ pointLength) × (length (now p1) ≡ pointLength)
+        × (segmentOnGrid (planesOf (now view) count) (pointOf (now p0)) (pointOf (now p1)) ≡ true) ⌝ }
     ensures { λ r. ⌜ r ≡ segmentInView (planesOf (now (view .entry)) count) (pointOf (now (p0 .entry))) (pointOf (now (p1 .entry))) ⌝ }
 {
     let mut span = Span {

@@ -5,10 +5,11 @@ ghost use Prim.Native.Nat.{_+_, _<_, _≤_};
 ghost use lib.Dec.{leb};
 ghost use lib.ListN.{length};
 ghost use Rattle.number.specs.Every.{every};
-ghost use Rattle.number.specs.Limits.{gridLimit, distanceLimit};
+ghost use Rattle.number.specs.Limits.{pointLength, gridLimit, distanceLimit};
 ghost use Rattle.whole.specs.Plane.{gap};
 ghost use Rattle.whole.specs.SegmentCall.{pointOf, planeStart, planeAt, planesOf, viewLength, countOf, within, pointWithin, planeWithin};
 use number::limits::GRID_LIMIT;
+use number::limits::PLANE_LENGTH;
 
 // The largest entry of a normal, and the largest distance of a plane, in size.
 const NORMAL_LIMIT: u32 = 128;
@@ -29,7 +30,7 @@ pub fn count_of(x: i32) -> u32
 pub fn view_length(count: u32) -> usize
     ensures { λ r. ⌜ r ≡ viewLength count ⌝ }
 {
-    1 + count as usize * 4
+    1 + count as usize * PLANE_LENGTH
 }
 
 // Whether a number is at most a limit in size. It is not negated: the least has no negation.
@@ -50,7 +51,7 @@ pub fn on_grid(x: i32) -> bool
 
 // Whether a point is on the grid.
 pub(crate) fn point_within(p: &[i32]) -> bool
-    requires { ⌜ length (now p) ≡ 3 ⌝ }
+    requires { ⌜ length (now p) ≡ pointLength ⌝ }
     ensures { λ r. ⌜ r ≡ pointWithin (pointOf (now (p .entry))) ⌝ }
 {
     let limit = GRID_LIMIT as u32;
@@ -96,7 +97,7 @@ pub fn segment_planes(view: &[i32], count: u32) -> bool
 
 // How far in front of a plane a point lies, both on the grid.
 pub(crate) fn gap(view: &[i32], i: u32, p: &[i32]) -> i64
-    requires { ⌜ (planeStart i + 3 < length (now view)) × (length (now p) ≡ 3)
+    requires { ⌜ (planeStart i + 3 < length (now view)) × (length (now p) ≡ pointLength)
         × (planeWithin (planeAt (now view) i) ≡ true) × (pointWithin (pointOf (now p)) ≡ true) ⌝ }
     ensures { λ r. ⌜ r ≡ gap (planeAt (now (view .entry)) i) (pointOf (now (p .entry))) ⌝ }
 {

@@ -350,8 +350,7 @@ fn side(slip: Slip) -> Box<dyn Side> {
 #[test]
 fn each_slip_is_found() {
     for &slip in ALL {
-        let batch = Batch::of(Some(side(slip)));
-        let by = found(&batch, 60_000);
-        assert_eq!(by, [slip != Slip::None; 2], "{slip:?} by the fixed inputs, and by the drawn ones");
+        let found = found(&by(Some(side(slip))), 60_000);
+        assert_eq!(found, [slip != Slip::None; 2], "{slip:?} by the fixed inputs, and by the drawn ones");
     }
 }

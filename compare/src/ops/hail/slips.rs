@@ -2,19 +2,8 @@
 //! that are tried.
 
 use super::*;
+use crate::planted::{found, slips};
 use openusd::gf;
-use std::ops;
-
-macro_rules! slips {
-    ($($slip:ident)*) => {
-        #[derive(Clone, Copy, Debug, PartialEq)]
-        enum Slip {
-            $($slip,)*
-        }
-
-        const ALL: &[Slip] = &[$(Slip::$slip,)*];
-    };
-}
 
 slips! {
     None
@@ -142,7 +131,7 @@ fn answered(slip: Slip, rays: &[f64], corners: [&[f64]; 3], out: &mut [f64], slo
 }
 
 /// The operation with a slip. One number more than what is lent is there.
-fn side(slip: Slip) -> Call<'static> {
+fn side(slip: Slip) -> Box<Call> {
     Box::new(move |&[rays, a, b, c]: &Ins, out: Lent, status: Lent| unsafe {
         match slip {
             Slip::RayWritten if rays.len > 0 => *rays.at = 0.25 + *rays.at,
@@ -168,10 +157,7 @@ fn side(slip: Slip) -> Call<'static> {
 #[test]
 fn each_slip_is_found() {
     for &slip in ALL {
-        let hail = Hail::of(Some(side(slip)));
-        let found = |mut cases: ops::Range<u64>| cases.any(|case| hail.agree(case, Rng::at(1, case)).is_none());
-        let fixed = hail.cases(0);
-        let by = [found(0..fixed), found(fixed..fixed + 60_000)];
-        assert_eq!(by, [slip != Slip::None; 2], "{slip:?} by the fixed inputs, and by the drawn ones");
+        let found = found(&by(Some(side(slip))), 60_000);
+        assert_eq!(found, [slip != Slip::None; 2], "{slip:?} by the fixed inputs, and by the drawn ones");
     }
 }

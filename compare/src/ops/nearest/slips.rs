@@ -2,8 +2,8 @@
 //! found by the inputs that are tried.
 
 use super::*;
-use crate::planted::slips;
-use std::ops;
+use crate::planted::{found_by, slips};
+use crate::trial::Trial;
 
 slips! {
     None
@@ -196,7 +196,7 @@ fn side(slip: Slip, lists: bool) -> Box<dyn Side> {
         let status = refused(slip, ranges.slice(), p.slice(), lists.then_some(listing.len));
         match slip {
             _ if status == 0 => {}
-            Slip::WordOnRefusal => *word(out) = NO_PLACE,
+            Slip::WordOnRefusal => *out.word() = NO_PLACE,
             Slip::SlotsOnRefusal => listing.slots().fill(NO_PLACE),
             _ => {}
         }
@@ -208,21 +208,21 @@ fn side(slip: Slip, lists: bool) -> Box<dyn Side> {
             false => place_of(slip, ranges.slice(), p.slice()),
         };
         if slip != Slip::WordNotWritten {
-            *word(out) = answer;
+            *out.word() = answer;
         }
         0
     }))
 }
 
-fn both(slip: Slip) -> [Search; 2] {
-    [Search::nearest_of(Some(side(slip, false))), Search::within_of(Some(side(slip, true)))]
+fn both(slip: Slip) -> [Both<Search>; 2] {
+    [nearest_by(Some(side(slip, false))), within_by(Some(side(slip, true)))]
 }
 
 #[test]
 fn a_second_search_agrees() {
     for search in both(Slip::None) {
         let tally = search.compare(0..search.cases(0) + 100_000, 1);
-        assert_eq!(tally.differences, 0, "{}: {:?}", search.name, tally.first);
+        assert_eq!(tally.differences, 0, "{}: {:?}", search.name(), tally.first);
     }
 }
 
@@ -230,12 +230,8 @@ fn a_second_search_agrees() {
 #[test]
 fn each_slip_is_found() {
     for &slip in ALL.iter().filter(|&&slip| slip != Slip::None) {
-        let searches = both(slip);
-        let found = |mut cases: ops::Range<u64>| {
-            cases.any(|case| searches.iter().any(|search| search.agree(case, Rng::at(1, case)).is_none()))
-        };
-        let fixed = searches[0].cases(0);
-        assert!(found(0..fixed), "{slip:?} passes the fixed inputs");
-        assert!(found(fixed..fixed + 100_000), "{slip:?} passes the drawn inputs");
+        let [nearest, within] = both(slip);
+        let by = found_by(&[&nearest, &within], 100_000);
+        assert_eq!(by, [true; 2], "{slip:?} by the fixed inputs, and by the drawn ones");
     }
 }

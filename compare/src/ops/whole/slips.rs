@@ -185,18 +185,18 @@ fn side(slip: Slip) -> Box<dyn Side> {
             Slip::BesideWord => *out.at.cast::<u32>().add(1) = 1,
             _ => {}
         }
-        let (view, p0, p1) = (wholes(view), wholes(p0), wholes(p1));
+        let (view, p0, p1) = (view.whole_slice(), p0.whole_slice(), p1.whole_slice());
         let status = refused(slip, view, p0, p1);
         if status != 0 {
             if slip == Slip::WordOnRefusal {
-                *verdict(out) = 0;
+                *out.word() = 0;
             }
             return status;
         }
         match (slip, seen(slip, view, p0, p1)) {
-            (Slip::YesIsAllOnes, true) => *verdict(out) = u32::MAX,
+            (Slip::YesIsAllOnes, true) => *out.word() = u32::MAX,
             (Slip::NoNotWritten, false) => {}
-            (_, is) => *verdict(out) = is.into(),
+            (_, is) => *out.word() = is.into(),
         }
         0
     }))
@@ -206,8 +206,7 @@ fn side(slip: Slip) -> Box<dyn Side> {
 #[test]
 fn each_slip_is_found() {
     for &slip in ALL {
-        let engine = Engine::of(Some(side(slip)));
-        let by = found(&engine, 100_000);
-        assert_eq!(by, [slip != Slip::None; 2], "{slip:?} by the fixed inputs, and by the drawn ones");
+        let found = found(&by(Some(side(slip))), 100_000);
+        assert_eq!(found, [slip != Slip::None; 2], "{slip:?} by the fixed inputs, and by the drawn ones");
     }
 }

@@ -262,11 +262,11 @@ fn side(slip: Slip) -> Box<dyn Side> {
             Slip::BesideWitness => *room.at.cast::<i64>().add(room.len) = 1,
             _ => {}
         }
-        let (view, corners, room) = (wholes(view), wholes(corners), point(room));
+        let (view, corners, room) = (view.whole_slice(), corners.whole_slice(), point(room));
         let status = refused(slip, view, corners, room.len());
         if status != 0 {
             if slip == Slip::WordOnRefusal {
-                *verdict(out) = 0;
+                *out.word() = 0;
             }
             if slip == Slip::WitnessOnRefusal {
                 room.fill(0);
@@ -289,9 +289,9 @@ fn side(slip: Slip) -> Box<dyn Side> {
             None => {}
         }
         match (slip, shared.is_some()) {
-            (Slip::YesIsAllOnes, true) => *verdict(out) = u32::MAX,
+            (Slip::YesIsAllOnes, true) => *out.word() = u32::MAX,
             (Slip::NoNotWritten, false) => {}
-            (_, is) => *verdict(out) = is.into(),
+            (_, is) => *out.word() = is.into(),
         }
         0
     }))
@@ -305,7 +305,7 @@ fn side(slip: Slip) -> Box<dyn Side> {
 /// with a determinant above zero.
 #[test]
 fn each_slip_is_found() {
-    let found = |&slip: &Slip| (slip, found(&Engine::of(Some(side(slip))), 60_000));
+    let found = |&slip: &Slip| (slip, found(&by(Some(side(slip))), 60_000));
     let wrong: Vec<_> = ALL.iter().map(found).filter(|&(slip, by)| by != [slip != Slip::None; 2]).collect();
     assert!(wrong.is_empty(), "by the fixed inputs, and by the drawn ones: {wrong:?}");
 }

@@ -26,11 +26,11 @@ abbrev pub long : Float
 long = rounded (10 ^ 18) 1
 
 -- of the size of what is added up
-abbrev pub least : Float
-least = rounded 1 (10 ^ 90)
+abbrev pub leastSize : Float
+leastSize = rounded 1 (10 ^ 90)
 
-abbrev pub most : Float
-most = rounded (10 ^ 90) 1
+abbrev pub mostSize : Float
+mostSize = rounded (10 ^ 90) 1
 
 -- the part of that size that is taken for the error, some thousands of times what the roundings can make of it
 abbrev pub part : Float
@@ -62,7 +62,7 @@ abbrev pub errorOf : Float → Float
 errorOf size = size ⊗ part
 
 abbrev pub trusted : Vec4d → Range3d → Bool
-trusted e r = lt (extentOf r) long && lt (short ⊗ short) (squareOf e) && lt (squareOf e) (long ⊗ long) && lt least (sizeOf e r) && lt (sizeOf e r) most
+trusted e r = lt (extentOf r) long && lt (short ⊗ short) (squareOf e) && lt (squareOf e) (long ⊗ long) && lt leastSize (sizeOf e r) && lt (sizeOf e r) mostSize
 
 unfoldable pub filteredOf : Vec4d → Range3d → Filtered
 filteredOf e r = record { estimate = estimateOf e r; error = errorOf (sizeOf e r); trusted = trusted e r }

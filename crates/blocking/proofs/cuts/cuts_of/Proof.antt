@@ -8,14 +8,14 @@ use Rattle.matrix.specs.declared.vec.Vec3d.{Vec3d}
 use Rattle.verdict.specs.declared.plane.Plane.{Plane}
 use Rattle.verdict.specs.View.{planeAt}
 use Rattle.blocking.specs.declared.cuts.Cuts.{Cuts}
-use Rattle.blocking.specs.Steps.{cutBelow, withPlane, cutsBelow}
+use Rattle.blocking.specs.Steps.{cutBelow, cutsWith, cutsBelow}
 use Rattle.blocking.proofs.PlaneRead.{read}
 use Rattle.blocking.proofs.cuts.cuts_of.Statement.{statement}
 use Rattle.blocking.proofs.cuts.cuts_of.Tie as tie
 
-one-more : (f : ℕ → Plane) (a b : Vec3d) (i : ℕ) (c d : Cuts) (p : Plane) → c ≡ cutsBelow f a b i → p ≡ f i → d ≡ withPlane c p a b i → d ≡ cutsBelow f a b (i + 1)
-unfolding withPlane cutBelow
-one-more f a b i c d p e q r = r ∙ (λ t. withPlane (e t) (q t) a b i) ∙ ap (cutsBelow f a b) (sym (add-one i))
+one-more : (f : ℕ → Plane) (a b : Vec3d) (i : ℕ) (c d : Cuts) (p : Plane) → c ≡ cutsBelow f a b i → p ≡ f i → d ≡ cutsWith c p a b i → d ≡ cutsBelow f a b (i + 1)
+unfolding cutsWith cutBelow
+one-more f a b i c d p e q r = r ∙ (λ t. cutsWith (e t) (q t) a b i) ∙ ap (cutsBelow f a b) (sym (add-one i))
 
 abbrev Inv-loop : tie.InvT-loop
 Inv-loop view count a b cuts₀ i₀ cuts i = (i ≤ count) × (cuts ≡ cutsBelow (planeAt view) a b i)

@@ -5,7 +5,7 @@ use lib.Ieee.{Float, binary64, ofBits}
 use Rattle.number.specs.Arithmetic.{_⊗_, _⊘_}
 use Rattle.matrix.proofs.Literals.{one-bits}
 use Rattle.projection.specs.declared.projection.Projection.{Projection}
-use Rattle.camera.specs.Camera.{unit, toAperture}
+use Rattle.camera.specs.Camera.{cameraUnit, toAperture}
 use Rattle.camera.proofs.Literals.{unit-bits}
 use Rattle.camera.proofs.camera.to_aperture.Statement.{statement}
 use Rattle.camera.proofs.camera.to_aperture.Tie as tie
@@ -13,7 +13,7 @@ use Rattle.camera.proofs.camera.to_aperture.Tie as tie
 abbrev tenth : Float
 tenth = ofBits binary64 0x3fb9_9999_9999_999a
 
-scaled : (x y : Float) → x ≡ y → x ⊗ tenth ⊘ tenth ≡ y ⊗ unit ⊘ unit
+scaled : (x y : Float) → x ≡ y → x ⊗ tenth ⊘ tenth ≡ y ⊗ cameraUnit ⊘ cameraUnit
 scaled x y e t = e t ⊗ unit-bits t ⊘ unit-bits t
 
 returns : tie.Need-returns

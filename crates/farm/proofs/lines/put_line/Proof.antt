@@ -5,7 +5,8 @@ use mathlib.Core.List.{_++_}
 use Prim.Native.Nat.{ℕ}
 use native.Mathlib.Omega.{arith}
 use borrow.Author.Needs.{needs}
-use Rattle.farm.specs.Lines.{decimal, yesOrNo, line}
+use Rattle.farm.specs.Text.{decimal}
+use Rattle.farm.specs.Lines.{yesOrNo, line}
 use Rattle.farm.proofs.Texts.{put-next, put-meant, has-room, short-decimal}
 use Rattle.farm.proofs.lines.put_line.Statement.{statement}
 use Rattle.farm.proofs.lines.put_line.Tie as tie
@@ -21,11 +22,11 @@ returns c =
     let number = tested .before .before .before in
     let given = number .before .before .before .args in
     let t = given .text .now in
-    let k = decimal (given .place) in
-    let d = short-decimal (given .place) in
+    let k = decimal (given .section) in
+    let d = short-decimal (given .section) in
     put-meant t (given .at) (k ++ yesOrNo true) _ _
     (put-next t (given .at) k _ _ (has-room t (given .at) k _ _ (omega (arith, d)) (number .put-decimal .ensures)) (yesOrNo true) _ _ (omega (arith, d)) (put .put .ensures))
-    _ (is-line (given .place) (given .yes) true (tested .if1 .taken))
+    _ (is-line (given .section) (given .yes) true (tested .if1 .taken))
 
 returns-2 : tie.Need-returns-2
 returns-2 c =
@@ -34,11 +35,11 @@ returns-2 c =
     let number = tested .before .before .before in
     let given = number .before .before .before .args in
     let t = given .text .now in
-    let k = decimal (given .place) in
-    let d = short-decimal (given .place) in
+    let k = decimal (given .section) in
+    let d = short-decimal (given .section) in
     put-meant t (given .at) (k ++ yesOrNo false) _ _
     (put-next t (given .at) k _ _ (has-room t (given .at) k _ _ (omega (arith, d)) (number .put-decimal .ensures)) (yesOrNo false) _ _ (omega (arith, d)) (put .put2 .ensures))
-    _ (is-line (given .place) (given .yes) false (tested .if1 .left))
+    _ (is-line (given .section) (given .yes) false (tested .if1 .left))
 
 pub put-line-spec : {M : Type 1} → statement M
 put-line-spec =

@@ -6,14 +6,16 @@ use native.Mathlib.Numerals.{add-one}
 use native.Mathlib.Omega.{arith}
 use lib.ListN.{length, length-map, take, getD}
 use lib.Seq.{take-suc, length-take-le}
-use Rattle.farm.specs.Lines.{line, linesFrom, isYes}
-use Rattle.farm.proofs.Texts.{Put, put-then, put-meant, put-length, lines-more, short-line, short-lines}
+use Rattle.farm.specs.Text.{linesFrom}
+use Rattle.farm.specs.Lines.{line}
+use Rattle.farm.specs.Steps.{Put, isYes, lineRoom}
+use Rattle.farm.proofs.Texts.{put-then, put-meant, put-length, lines-more, short-line, short-lines}
 use Rattle.farm.proofs.lines.put_lines.Statement.{statement}
 use Rattle.farm.proofs.lines.put_lines.Tie as tie
 
 -- the lines of the first i slots
 abbrev lines : List ℕ → ℕ → List ℕ
-lines s i = linesFrom 1 (map isYes (take i s))
+lines s i = linesFrom line 1 (map isYes (take i s))
 
 abbrev Inv-loop : tie.InvT-loop
 Inv-loop text₀ slots count at₀ i₀ text at i = (i ≤ count) × Put text₀ 0 (lines slots i) at text × (length text ≡ length text₀)
@@ -30,15 +32,15 @@ next-line s i h =
     let n = as-many s i (omega arith) in
     let e : 1 + length (map isYes (take i s)) ≡ i + 1 = omega (arith, n) in
     sym
-    (ap (λ (k : ℕ). linesFrom 1 (map isYes (take k s))) (add-one i) ∙ ap (λ (l : List ℕ). linesFrom 1 (map isYes l)) (take-suc s i 0 h)
-    ∙ ap (linesFrom 1) (map-append isYes (take i s) (getD s i 0 ∷ [])) ∙ lines-more 1 (map isYes (take i s)) v ∙ ap (λ (k : ℕ). lines s i ++ line k v) e)
+    (ap (λ (k : ℕ). linesFrom line 1 (map isYes (take k s))) (add-one i) ∙ ap (λ (l : List ℕ). linesFrom line 1 (map isYes l)) (take-suc s i 0 h)
+    ∙ ap (linesFrom line 1) (map-append isYes (take i s) (getD s i 0 ∷ [])) ∙ lines-more line 1 (map isYes (take i s)) v ∙ ap (λ (k : ℕ). lines s i ++ line k v) e)
 
 none-put : (t s : List ℕ) → Put t 0 (lines s 0) 0 t
 unfolding linesFrom
 none-put t s = (refl, refl)
 
 -- there is room for a line more
-room : (t s : List ℕ) (n i at : ℕ) → i < n → n ≤ length s → 7 * n ≤ length t → at ≡ 0 + length (lines s i) → at + 7 ≤ length t
+room : (t s : List ℕ) (n i at : ℕ) → i < n → n ≤ length s → lineRoom * n ≤ length t → at ≡ 0 + length (lines s i) → at + lineRoom ≤ length t
 room t s n i at h k r e = omega (arith, short-lines 1 (map isYes (take i s)), as-many s i (omega arith))
 
 loop-holds : tie.Need-loop-holds Inv-loop μ-loop
@@ -49,7 +51,7 @@ put-line-requires c κs =
     let l = c .before .before .before .loop in
     let given = c .before .before .before .before .before .before .args in
     let r = room (given .text .now) (given .slots .now) (given .count) (l .i) (l .at) (omega arith) (omega arith) (omega arith) (l .inv .1 .0) in
-    (omega arith, omega (arith, r, l .inv .2))
+    omega (arith, r, l .inv .2)
 
 loop-again : tie.Need-loop-again Inv-loop μ-loop
 loop-again c =
@@ -70,8 +72,7 @@ returns c =
     let l = c .before .loop in
     let given = c .before .before .before .before .args in
     let e : l .i ≡ given .count = omega arith in
-    let all = put-meant (given .text .now) 0 (lines (given .slots .now) (l .i)) _ _ (l .inv .1) _ (ap (lines (given .slots .now)) e) in
-    (omega (arith, all .0), all .1)
+    put-meant (given .text .now) 0 (lines (given .slots .now) (l .i)) _ _ (l .inv .1) _ (ap (lines (given .slots .now)) e)
 
 pub put-lines-spec : {M : Type 1} → statement M
 put-lines-spec =

@@ -1,35 +1,43 @@
--- `sections::answer` meets its contract by what it calls: the room takes the numbers of every section. Assumes nothing.
-use mathlib.Core.Path.{sym}
-use native.Mathlib.Omega.{arith}
+-- `sections::answer` meets its contract by what it calls. Assumes nothing.
+use mathlib.Core.Path.{_≡_, sym, ap, _∙_}
+use mathlib.Core.List.{List}
+use Prim.Native.Nat.{ℕ, _≤_}
 use borrow.Author.Needs.{needs}
+use lib.ListN.{length, take}
 use lib.Seq.{length-take-le}
-use Rattle.farm.proofs.Placed.{at-most}
-use Rattle.farm.proofs.Measured.{within}
-use Rattle.farm.proofs.Batch.{numbers-long}
+use lib.Ieee.{Float}
+use Rattle.farm.specs.Directory.{InFront}
 use Rattle.farm.proofs.sections.answer.Statement.{statement}
 use Rattle.farm.proofs.sections.answer.Tie as tie
 
-load-sections-requires : tie.Need-load-sections-requires
-load-sections-requires c κs =
-    let start = c .before .before .before in
-    let b = start .args .file .now in
-    let r = start .pre .0 in
-    (r .formed, omega (arith, numbers-long b r, within b r, at-most b (r .formed)))
+in-front : (s room : List Float) (n : ℕ) → n ≤ length room → take n room ≡ s → InFront s room
+in-front s room n h e = ap (λ (k : ℕ). take k room) (sym (ap length e) ∙ length-take-le n room h) ∙ e
+
+slice-reshare-prefix-answer-by : tie.Need-slice-reshare-prefix-answer-by
+slice-reshare-prefix-answer-by c = c .before .before .load-sections .ensures .1
 
 slice-aggregate-answer-by : tie.Need-slice-aggregate-answer-by
-slice-aggregate-answer-by c = sym (length-take-le _ _ (c .before .before .load-sections .ensures .1))
+slice-aggregate-answer-by c = sym (length-take-le _ _ (c .before .before .before .load-sections .ensures .1))
 
 answer-by-requires : tie.Need-answer-by-requires
-answer-by-requires c κs = search needs
+answer-by-requires c κs =
+    let start = c .before .before .before .before .before .before .before .before .before in
+    (start .pre .0, (c .before .before .before .before .load-sections .ensures .2, start .pre .1 .1))
+
+returns : tie.Need-returns
+returns c =
+    let called = c .before .before in
+    let loaded = called .before .before .before .before .before in
+    (called .answer-by .ensures, in-front _ _ _ (loaded .load-sections .ensures .1) (loaded .load-sections .ensures .2))
 
 pub answer-spec : {M : Type 1} → statement M
 answer-spec =
     tie.close
     (tie.spec
-    (λ c. search needs)
-    load-sections-requires
-    (λ c. search needs)
+    (λ c κs. let start = c .before .before .before .before in (start .pre .0 .0 .formed, start .pre .1 .0))
+    slice-reshare-prefix-answer-by
     slice-aggregate-answer-by
     answer-by-requires
     (λ c. search needs)
-    (λ c. search needs))
+    (λ c. search needs)
+    returns)

@@ -15,9 +15,9 @@ use Rattle.number.specs.Slots.{unused}
 use Rattle.number.specs.Answer.{numberOf, reply, result, refused}
 use Rattle.verdict.specs.View.{volumeLength}
 use Rattle.group.specs.Batch.{intersectsBoxesCall}
-use Rattle.farm.specs.Directory.{sectionCount, sections}
+use Rattle.farm.specs.Directory.{sectionCount, fileNumbers}
 use Rattle.farm.specs.FarmFile.{planeCount, slotCount, listing, listed}
-use Rattle.farm.specs.Steps.{Measured, numbersOfAll, boxesSeen}
+use Rattle.farm.specs.Steps.{Measured, boxesSeen}
 use Rattle.farm.proofs.Placed.{at-least, at-most}
 use Rattle.farm.proofs.Measured.{volume-length}
 use Rattle.farm.proofs.Batch.{count, volume, boxes, numbers-are, slots-many, answered, slots-kept, not-answered}
@@ -54,7 +54,7 @@ behind-cleared x out ys n h e f =
     ∙ ap (λ (t : List ℕ). t ++ replicate (length out - n) unused) (take-at x (drop n out) n e)
 
 -- a file with w sections, its numbers, of which the volume's are so many, and the slots
-module _ (b : List ℕ) (r : Measured b) (numbers : List Float) (e : numbers ≡ numbersOfAll b (sections b)) (out : List ℕ) (o : length out ≡ slotCount) (w : ℕ) (q : w ≡ sectionCount b) (planes size : ℕ)
+module _ (b : List ℕ) (r : Measured b) (numbers : List Float) (e : numbers ≡ fileNumbers b) (out : List ℕ) (o : length out ≡ slotCount) (w : ℕ) (q : w ≡ sectionCount b) (planes size : ℕ)
     (p : planes ≡ planeCount b) (z : size ≡ volumeLength planes) where
   some : 1 ≤ w
   some = omega (arith, q, at-least b (r .formed))

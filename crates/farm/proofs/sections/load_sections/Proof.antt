@@ -4,15 +4,14 @@ use Prim.Native.Nat.{_-_, _≤_}
 use native.Mathlib.Omega.{arith}
 use borrow.Author.Needs.{needs}
 use lib.ListN.{length}
-use Rattle.farm.specs.Directory.{sections}
-use Rattle.farm.specs.Steps.{numbersOfAll}
-use Rattle.farm.proofs.Rooms.{all-numbers, none-taken, one-taken, all-taken}
+use Rattle.farm.specs.Directory.{fileNumbers}
+use Rattle.farm.proofs.Rooms.{all-numbers, none-taken, fits, one-taken, all-taken}
 use Rattle.farm.proofs.sections.load_sections.Statement.{statement}
 use Rattle.farm.proofs.sections.load_sections.Tie as tie
 
 abbrev Inv-loop : tie.InvT-loop
 Inv-loop file room₀ count taken₀ i₀ room taken i =
-    (i ≤ count) × (length room ≡ length room₀) × (taken ≤ length room) × (all-numbers file count room taken i ≡ numbersOfAll file (sections file))
+    (i ≤ count) × (length room ≡ length room₀) × (taken ≤ length room) × (all-numbers file count room taken i ≡ fileNumbers file)
 
 abbrev μ-loop : tie.MeasureT-loop
 μ-loop file room₀ count taken₀ i₀ room taken i = count - i
@@ -22,24 +21,30 @@ loop-holds c =
     let a = c .before .before .before .args in
     (omega arith, refl, omega arith, none-taken (a .file .now) _ (a .room .now) (c .word-32 .ensures))
 
+load-section-requires : tie.Need-load-section-requires Inv-loop μ-loop
+load-section-requires c κs =
+    let l = c .before .before .loop in
+    let counted = c .before .before .before in
+    let start = counted .before .before .before in
+    let a = start .args in
+    (start .pre .0, omega (arith, counted .word-32 .ensures), fits (a .file .now) _ _ (l .room) (a .room .now) (start .pre .1) (l .taken) (l .i) (l .inv .1) (l .inv .2) (l .inv .3) (omega arith))
+
 add-taken : tie.Need-add-taken Inv-loop μ-loop
 add-taken c =
     let asked = c .before .before in
     let l = asked .before .before .before .loop in
-    let counted = asked .before .before .before .before in
-    let start = counted .before .before .before in
+    let start = asked .before .before .before .before .before .before .before in
     let a = start .args in
-    let t = one-taken (a .file .now) _ (start .pre .0) (counted .word-32 .ensures) _ (l .room) (a .room .now) (start .pre .1) (l .taken) (l .i) (l .inv .1) (l .inv .2) (l .inv .3) (omega arith) _ _ (asked .load-section .ensures .0) (asked .load-section .ensures .1) in
+    let t = one-taken (a .file .now) _ _ (l .room) (a .room .now) (start .pre .1) (l .taken) (l .i) (l .inv .1) (l .inv .2) (l .inv .3) (omega arith) _ _ (asked .load-section .ensures .0) (asked .load-section .ensures .1) in
     omega (arith, t .0, t .1)
 
 loop-again : tie.Need-loop-again Inv-loop μ-loop
 loop-again c =
     let asked = c .before .before in
     let l = asked .before .before .before .loop in
-    let counted = asked .before .before .before .before in
-    let start = counted .before .before .before in
+    let start = asked .before .before .before .before .before .before .before in
     let a = start .args in
-    let t = one-taken (a .file .now) _ (start .pre .0) (counted .word-32 .ensures) _ (l .room) (a .room .now) (start .pre .1) (l .taken) (l .i) (l .inv .1) (l .inv .2) (l .inv .3) (omega arith) _ _ (asked .load-section .ensures .0) (asked .load-section .ensures .1) in
+    let t = one-taken (a .file .now) _ _ (l .room) (a .room .now) (start .pre .1) (l .taken) (l .i) (l .inv .1) (l .inv .2) (l .inv .3) (omega arith) _ _ (asked .load-section .ensures .0) (asked .load-section .ensures .1) in
     (omega arith, t .0, t .1, t .2)
 
 returns : tie.Need-returns Inv-loop μ-loop
@@ -60,7 +65,7 @@ load-sections-spec =
     (λ c. search needs)
     (λ c. search needs)
     (λ c. search needs)
-    (λ c κs. tt)
+    load-section-requires
     add-taken
     (λ c. search needs)
     (λ c. search needs)

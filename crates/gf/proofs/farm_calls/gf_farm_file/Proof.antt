@@ -11,7 +11,7 @@ returns c =
     let called = c .before .before .before .before in
     let before = called .before .before .before .before .args .count .now in
     let e = called .farm-file .ensures in
-    (c .put .ensures ∙ ap (λ (l : Listing). put (l .boxes) before) e, ap (λ (l : Listing). l .out) e)
+    (c .put .ensures ∙ ap (λ (l : Listing). put (l .count) before) e, ap (λ (l : Listing). l .out) e)
 
 pub gf-farm-file-spec : {M : Type 1} → statement M
 gf-farm-file-spec = tie.close (tie.spec (λ c κs. tt) (λ c κs. tt) (λ c. search needs) returns)

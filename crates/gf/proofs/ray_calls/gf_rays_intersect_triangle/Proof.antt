@@ -6,7 +6,7 @@ use borrow.Author.Needs.{needs}
 use lib.Ieee.{Float}
 use Rattle.number.specs.Answer.{statusOf}
 use Rattle.number.specs.declared.answer.Written.{Written}
-use Rattle.hail.specs.Hail.{Left, left}
+use Rattle.rays.specs.Rays.{Left, left}
 use Rattle.gf.proofs.ray_calls.gf_rays_intersect_triangle.Statement.{statement}
 use Rattle.gf.proofs.ray_calls.gf_rays_intersect_triangle.Tie as tie
 

@@ -6,25 +6,23 @@ use borrow.Author.Needs.{needs}
 use mir.Val.{boolByte}
 use lib.ListN.{length, take, length-set}
 use Rattle.number.specs.Limits.{boxLength, mostPlanes}
+use Rattle.number.specs.Records.{records}
 use Rattle.verdict.specs.Rows.{planesInRows}
-use Rattle.group.specs.Group.{records}
 use Rattle.group.specs.Batch.{slotsBy}
-use Rattle.group.proofs.Slots.{all-slots, none-passed, one-passed, all-passed}
+use Rattle.group.proofs.Slots.{all-slots, one-passed, all-passed}
 use Rattle.group.proofs.batch.answer.Statement.{statement}
 use Rattle.group.proofs.batch.answer.Tie as tie
 
 abbrev Inv-loop : tie.InvT-loop
 Inv-loop rows planes boxes out₀ i₀ out i =
     (i ≤ length out) × (length out ≡ length out₀)
-    × (all-slots (take planes (planesInRows rows mostPlanes)) (length out₀) boxes out i ≡ slotsBy (take planes (planesInRows rows mostPlanes)) (records (length out₀) boxes))
+    × (all-slots (take planes (planesInRows rows mostPlanes)) (length out₀) boxes out i ≡ slotsBy (take planes (planesInRows rows mostPlanes)) (records boxLength (length out₀) boxes))
 
 abbrev μ-loop : tie.MeasureT-loop
 μ-loop rows planes boxes out₀ i₀ out i = length out₀ - i
 
 loop-holds : tie.Need-loop-holds Inv-loop μ-loop
-loop-holds c =
-    let a = c .before .before .args in
-    (omega arith, refl, none-passed (take (a .planes) (planesInRows (a .rows .now) mostPlanes)) (length (a .out .now)) (a .boxes .now) (a .out .now))
+loop-holds c = (omega arith, refl, refl)
 
 loop-again : tie.Need-loop-again Inv-loop μ-loop
 loop-again c =

@@ -1,7 +1,7 @@
 -- `vec::greater` meets its contract: `proofs/EitherWay.antt` has the law. Assumes nothing.
 use mathlib.Core.Path.{_∙_, ap}
 use borrow.Author.Needs.{needs}
-use lib.Ieee.{Float, lt, isNan}
+use lib.Ieee.{lt, isNan}
 use Rattle.number.proofs.Nan.{number}
 use Rattle.matrix.proofs.EitherWay.{one-number, greater-joined, greater-number}
 use Rattle.matrix.proofs.vec.greater.Statement.{statement}

@@ -1,7 +1,7 @@
 -- `vec::lesser` meets its contract: `proofs/EitherWay.antt` has the law. Assumes nothing.
 use mathlib.Core.Path.{_∙_, ap}
 use borrow.Author.Needs.{needs}
-use lib.Ieee.{Float, lt, isNan}
+use lib.Ieee.{lt, isNan}
 use Rattle.number.proofs.Nan.{number}
 use Rattle.matrix.proofs.EitherWay.{one-number, lesser-joined, lesser-number}
 use Rattle.matrix.proofs.vec.lesser.Statement.{statement}

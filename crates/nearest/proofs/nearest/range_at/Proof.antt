@@ -5,6 +5,7 @@ use Prim.Native.Nat.{ℕ, _+_, _*_}
 use native.Mathlib.Omega.{arith}
 use borrow.Author.Needs.{needs}
 use lib.Ieee.{Float}
+use Rattle.number.specs.Limits.{rangeLength}
 use Rattle.number.specs.Slice.{at}
 use Rattle.matrix.proofs.Same.{same-range, same-vec3}
 use Rattle.nearest.proofs.nearest.range_at.Statement.{statement}
@@ -17,7 +18,7 @@ returns : tie.Need-returns
 returns c =
     let a = c .before .before .before .before .before .before .args in
     let s = a .ranges .now in
-    let from = a .i * 6 in
+    let from = a .i * rangeLength in
     same-range (same-vec3 (at-same s from (from + 0) (omega arith)) refl refl)
     (same-vec3 (at-same s (from + 3) (from + 3 + 0) (omega arith)) (at-same s (from + 4) (from + 3 + 1) (omega arith)) (at-same s (from + 5) (from + 3 + 2) (omega arith)))
 

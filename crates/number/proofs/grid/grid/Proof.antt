@@ -12,7 +12,7 @@ use mir.Syntax.{w32}
 use mir.Val.{SFits, toZ, ofZ}
 use mir.ValLaws.{toZ-ofZ}
 use Rattle.number.specs.Answer.{Reply, refuse, write, replied, unless, has, leaving}
-use Rattle.number.specs.Grid.{centimetres, placed, coordinates, gridNumbers, gridCall}
+use Rattle.number.specs.Grid.{centimetres, placed, gridCoordinates, gridNumbers, gridCall}
 use Rattle.number.specs.Slice.{at, stored}
 use Rattle.number.specs.declared.grid.Coordinate.{Coordinate}
 use Rattle.number.specs.declared.grid.Coordinate.the-variants.{On, Off}
@@ -25,7 +25,7 @@ use Rattle.number.proofs.grid.grid.Tie as tie
 abbrev decided : List Coordinate → List Float → Reply Float
 decided cs out = replied (gridNumbers cs) out
 
-call-is : (p out : List Float) → gridCall p out ≡ unless (has 3 p) (refuse 1 out) (unless (has 3 out) (refuse 2 out) (decided (coordinates p) out))
+call-is : (p out : List Float) → gridCall p out ≡ unless (has 3 p) (refuse 1 out) (unless (has 3 out) (refuse 2 out) (decided (gridCoordinates p) out))
 unfolding gridCall leaving
 call-is p out = refl
 
@@ -44,7 +44,7 @@ is-at : (p : List Float) (i : ℕ) (x : Float) (r k : Coordinate) → x ≡ at p
 unfolding whole-at
 is-at p i x r k e f g = ap (λ (y : Float). placed (centimetres y)) (sym e) ∙ sym f ∙ g
 
-three : (p : List Float) → length p ≡ 3 → coordinates p ≡ whole-at p 0 ∷ whole-at p 1 ∷ whole-at p 2 ∷ []
+three : (p : List Float) → length p ≡ 3 → gridCoordinates p ≡ whole-at p 0 ∷ whole-at p 1 ∷ whole-at p 2 ∷ []
 unfolding whole-at
 three [] e = absurd (omega arith)
 three (x ∷ []) e = absurd (omega arith)

@@ -1,4 +1,4 @@
--- `number::root::search` meets its contract: `After` of `specs/Search.antt` holds of the loop's variables after the first bit and after each that is tried, by
+-- `number::root::search` meets its contract: `AfterBit` of `specs/Search.antt` holds of the loop's variables after the first bit and after each that is tried, by
 -- the contracts of `first` and `tried`. Assumes nothing.
 use mathlib.Core.Path.{_≡_, ap, _∙_}
 use Prim.Native.Nat.{ℕ, _*_, _^_, _≤_, _<_}
@@ -6,14 +6,14 @@ use native.Mathlib.Omega.{arith}
 use borrow.Author.Needs.{needs}
 use lib.Dec.{lit≤}
 use lib.Pow.{pow-pos}
-use Rattle.number.specs.Search.{After}
+use Rattle.number.specs.Search.{AfterBit}
 use Rattle.number.proofs.Search.{exact, inexact, root-below}
 use Rattle.number.proofs.root.search.Statement.{statement}
 use Rattle.number.proofs.root.search.Tie as tie
 
 -- the loop's variables after a bit
 record At (n bit trial left : ℕ) : Type 0 where
-  after : After n bit (record { trial = trial; left = left })
+  after : AfterBit n bit (record { trial = trial; left = left })
   bits : bit ≤ 2 ^ 53
   small : n < 2 ^ 54 * 2 ^ 54
 

@@ -15,6 +15,7 @@ use lib.Ieee.{Float, nan, inf, fin, binary64, up, unlike, mul, eq, ofBits}
 use lib.Ieee.Scale.{finite}
 use lib.Ieee.Fits.{down-pos}
 use Rattle.number.specs.Arithmetic.{zeroOf}
+use Rattle.number.specs.Every.{every}
 use Rattle.number.specs.Slice.{allFinite}
 use Rattle.number.proofs.Tests.{and-true}
 use Rattle.number.proofs.Zeros.{round-zero}
@@ -46,7 +47,7 @@ regrouped false b c = refl
 -- one number more, at i
 more : (s : List Float) (i : ℕ) (all : Bool) → i < length s
     → ((all && eq (mul binary64 (getD s i nan) zero) zero) && allFinite (drop (i + 1) s)) ≡ (all && allFinite (drop i s))
-unfolding allFinite
+unfolding every
 more s i all h =
     regrouped all (eq (mul binary64 (getD s i nan) zero) zero) (allFinite (drop (i + 1) s))
     ∙ (λ t. all && (times-zero (getD s i nan) t && allFinite (drop (add-one i t) s)))
@@ -54,7 +55,7 @@ more s i all h =
 
 -- none is left
 done : (s : List Float) (i : ℕ) (all : Bool) → i ≡ length s → (all && allFinite (drop i s)) ≡ allFinite s → all ≡ allFinite s
-unfolding allFinite
+unfolding every
 done s i all e p = sym (and-true all) ∙ sym (ap (λ (l : List Float). all && allFinite l) (ap (λ (n : ℕ). drop n s) e ∙ drop-length s)) ∙ p
 
 abbrev Inv-loop : tie.InvT-loop

@@ -9,7 +9,7 @@ use lib.IntN.{ℤ, pos}
 use lib.Signed.{leZ}
 use Rattle.number.specs.Limits.{gridLimit}
 use Rattle.whole.specs.SegmentCall.{numberAt, within}
-use Rattle.placed.specs.declared.placement.Vec3.{Vec3}
+use Rattle.placed.specs.declared.placement.Vec3i.{Vec3i}
 use Rattle.placed.specs.Placement.{sizes, sameNumber}
 use Rattle.placed.specs.Steps.{vecOf}
 use Rattle.placed.proofs.Registers.{kept-as}
@@ -44,8 +44,8 @@ returns c =
     let t1 = c .before .before .before .before .before .before .on-grid .ensures ∙ ap (within gridLimit) low in
     let t2 = c .before .before .before .before .before .on-grid2 .ensures ∙ ap (within gridLimit) high in
     let t3 = c .before .before .before .before .ordered .ensures ∙ (λ t. leZ (low t) (high t)) in
-    let t4 = c .before .before .before .is-single .ensures ∙ ap (λ (v : Vec3). eqb (sizes (vecOf v)) 1) (at9 .before .vec-at .ensures) in
-    let t5 = c .before .before .is-single2 .ensures ∙ ap (λ (v : Vec3). eqb (sizes (vecOf v)) 1) (at9 .vec-at2 .ensures) ∙ ap (λ (n : ℕ). eqb n 1) (column-sizes s i) in
+    let t4 = c .before .before .before .is-single .ensures ∙ ap (λ (v : Vec3i). eqb (sizes (vecOf v)) 1) (at9 .before .vec-at .ensures) in
+    let t5 = c .before .before .is-single2 .ensures ∙ ap (λ (v : Vec3i). eqb (sizes (vecOf v)) 1) (at9 .vec-at2 .ensures) ∙ ap (λ (n : ℕ). eqb n 1) (column-sizes s i) in
     let t6 = c .before .on-grid3 .ensures ∙ ap (within gridLimit) moved in
     let t7 = c .same-number .ensures ∙ ap (λ (z : ℤ). sameNumber z (pos 0)) last in
     λ t. t1 t && t2 t && t3 t && t4 t && t5 t && t6 t && t7 t

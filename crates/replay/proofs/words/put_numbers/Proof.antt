@@ -19,14 +19,14 @@ put-front b l ys n k h e q =
     ap (λ (t : List Float). t ++ drop k l) (q ∙ all-there b 0 (take k l) (omega (arith, m)) ∙ ap (numbersAt b 0) m) ∙ ap (λ (j : ℕ). numbersAt b 0 j ++ drop j l) e
 
 slice-aggregate-load : tie.Need-slice-aggregate-load
-slice-aggregate-load c = sym (length-take-le _ _ (omega (arith, c .before .before .least2 .ensures)))
+slice-aggregate-load c = sym (length-take-le _ _ (omega (arith, c .before .before .least .ensures)))
 
 returns : tie.Need-returns
 returns c =
     let filled = c .before .before in
     let least = filled .before .before .before in
     let given = least .before .before .before .args in
-    let n : least .least2 .result ≡ min (min (given .count) 192) (length (given .numbers .now)) = omega (arith, least .least2 .ensures, least .before .least .ensures) in
+    let n : least .least .result ≡ min (min (given .count) 192) (length (given .numbers .now)) = omega (arith, least .least .ensures, least .before .in-room .ensures) in
     put-front (given .bytes .now) (given .numbers .now) _ (given .count) _ (omega arith) n (filled .load .ensures)
 
 pub put-numbers-spec : {M : Type 1} → statement M

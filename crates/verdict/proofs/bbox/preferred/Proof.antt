@@ -5,7 +5,7 @@ use mathlib.Core.Bool.{true, false}
 use lib.Ieee.{Float, binary64, ofBits, lt, le}
 use Rattle.number.specs.Arithmetic.{_⊖_, _⊗_, absOf, maxOf}
 use Rattle.matrix.proofs.Literals.{min-length-bits}
-use Rattle.verdict.specs.BBox.{tolerance, preferred}
+use Rattle.verdict.specs.BBox.{volumeTolerance, preferred}
 use Rattle.matrix.specs.Constants.{rounded}
 use Rattle.verdict.proofs.Literals.{millionth-bits}
 use Rattle.verdict.proofs.bbox.preferred.Statement.{statement}
@@ -13,7 +13,7 @@ use Rattle.verdict.proofs.bbox.preferred.Tie as tie
 
 module _ (v w m a t d : Float) (p : m ≡ maxOf v w) (q : a ≡ absOf m)
     (r : t ≡ maxOf (ofBits binary64 0x3eb0_c6f7_a0b5_ed8d ⊗ a) (ofBits binary64 0x3ddb_7cdf_d9d7_bdbb)) (size : d ≡ absOf (v ⊖ w)) where
-  bound : t ≡ tolerance v w
+  bound : t ≡ volumeTolerance v w
   bound = r ∙ ap (λ (x : Float). maxOf (x ⊗ a) (ofBits binary64 0x3ddb_7cdf_d9d7_bdbb)) millionth-bits
       ∙ ap (λ (x : Float). maxOf (rounded 1 (10 ^ 6) ⊗ a) x) min-length-bits ∙ ap (λ (x : Float). maxOf (rounded 1 (10 ^ 6) ⊗ x) (rounded 1 (10 ^ 10))) (q ∙ ap absOf p)
 

@@ -10,11 +10,11 @@ use lib.ListN.{take}
 use lib.Seq.{take-all}
 use lib.Ieee.{Float}
 use Rattle.number.specs.Limits.{mostPlanes}
+use Rattle.number.proofs.Tabulate.{as-many as plane-count, first as first-planes}
 use Rattle.verdict.specs.declared.plane.Plane.{Plane}
 use Rattle.verdict.specs.BBox.{boxOf}
 use Rattle.verdict.specs.Rows.{planeInRows, planesInRows}
 use Rattle.verdict.specs.Frustum.{boxInView}
-use Rattle.verdict.proofs.ViewLists.{plane-count, first-planes}
 use Rattle.verdict.proofs.frustum.box_in_view.Statement.{statement}
 use Rattle.verdict.proofs.frustum.box_in_view.Tie as tie
 

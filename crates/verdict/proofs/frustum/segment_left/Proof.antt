@@ -9,13 +9,13 @@ use lib.Bits.{bitOr}
 use lib.Dec.{eqb}
 use lib.Ieee.{Float}
 use Rattle.number.specs.Every.{every}
+use Rattle.number.proofs.Tabulate.{as-many as plane-count}
 use Rattle.matrix.specs.Constants.{positiveZero, one}
 use Rattle.matrix.specs.declared.vec.Vec3d.{Vec3d}
 use Rattle.verdict.specs.declared.plane.Plane.{Plane}
 use Rattle.verdict.specs.View.{planeAt, planesOf}
 use Rattle.verdict.specs.Frustum.{pointInView, hasEnd, spanLeft, segmentInView}
 use Rattle.verdict.specs.Steps.Passes.{sidesOf, allPlanes}
-use Rattle.verdict.proofs.ViewLists.{plane-count}
 use Rattle.verdict.proofs.Sides.{some-end, end-inside}
 use Rattle.verdict.proofs.frustum.segment_left.Statement.{statement}
 use Rattle.verdict.proofs.frustum.segment_left.Tie as tie

@@ -11,6 +11,7 @@ use lib.ListN.{take}
 use lib.Ieee.{Float}
 use Rattle.number.specs.Limits.{fewestPlanes}
 use Rattle.number.specs.Every.{every}
+use Rattle.number.proofs.Tabulate.{as-many as plane-count, first as first-planes}
 use Rattle.matrix.specs.Constants.{positiveZero, one}
 use Rattle.matrix.specs.declared.vec.Vec3d.{Vec3d}
 use Rattle.verdict.specs.declared.plane.Plane.{Plane}
@@ -19,7 +20,6 @@ use Rattle.verdict.specs.View.{rayCount, planeAt, planesOf, raysOf}
 use Rattle.verdict.specs.Frustum.{pointInView, hasEnd, spanLeft, segmentInView, hasCorner, hasCorners, someHit, sightLines, triangleInView}
 use Rattle.verdict.specs.Steps.Passes.{sidesOf, allPlanes, sideLeft, nearAndFarIn}
 use Rattle.verdict.proofs.PlanesHeld.{has-original}
-use Rattle.verdict.proofs.ViewLists.{plane-count, first-planes}
 use Rattle.verdict.proofs.Sides.{some-corner, corner-inside, all-corners, near-and-far}
 use Rattle.verdict.proofs.triangle.intersects_triangle.Statement.{statement}
 use Rattle.verdict.proofs.triangle.intersects_triangle.Tie as tie

@@ -6,13 +6,13 @@ use borrow.Author.Needs.{needs}
 use borrow.Author.Tests.{eq-eqb, ne-eqb}
 use Rattle.number.specs.Limits.{fewestPlanes}
 use Rattle.number.specs.Every.{every}
+use Rattle.number.proofs.Tabulate.{as-many as plane-count}
 use Rattle.matrix.specs.Constants.{positiveZero, one}
 use Rattle.matrix.specs.declared.vec.Vec3d.{Vec3d}
 use Rattle.verdict.specs.declared.plane.Plane.{Plane}
 use Rattle.verdict.specs.View.{planeAt, planesOf}
 use Rattle.verdict.specs.Frustum.{hasEnd, spanLeft}
 use Rattle.verdict.specs.Steps.Passes.{sideLeft}
-use Rattle.verdict.proofs.ViewLists.{plane-count}
 use Rattle.verdict.proofs.Sides.{some-end}
 use Rattle.verdict.proofs.triangle.side_in_view.Statement.{statement}
 use Rattle.verdict.proofs.triangle.side_in_view.Tie as tie

@@ -9,7 +9,7 @@ use lib.IntN.{natAbs}
 use mir.Syntax.{w64}
 use mir.ValLaws.{toZ-ofZ}
 use Rattle.whole.specs.Segment.{fraction}
-use Rattle.whole.specs.Steps.{farthest}
+use Rattle.whole.specs.Steps.{gapLimit}
 use Rattle.whole.proofs.fraction.crossing.Statement.{statement}
 use Rattle.whole.proofs.fraction.crossing.Tie as tie
 
@@ -24,7 +24,7 @@ add-t5 c =
     let s = c .before .before in
     let e = c .before .size .ensures ∙ ap natAbs (toZ-ofZ w64 (s .args .first) (s .fits .first)) in
     let f = c .size2 .ensures ∙ ap natAbs (toZ-ofZ w64 (s .args .second) (s .fits .second)) in
-    let h : c .before .size .result + c .size2 .result ≤ farthest + farthest = omega (arith, s .pre .0, s .pre .1, e, f) in
+    let h : c .before .size .result + c .size2 .result ≤ gapLimit + gapLimit = omega (arith, s .pre .0, s .pre .1, e, f) in
     record { fits = lt-of-le-of-lt h (lit< tt) }
 
 returns : tie.Need-returns

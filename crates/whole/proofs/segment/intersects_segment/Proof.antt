@@ -8,7 +8,7 @@ use borrow.Author.Tests.{not-true, not-false}
 use lib.ListN.{length}
 use Rattle.number.specs.Limits.{fewestPlanes}
 use Rattle.number.specs.Answer.{result}
-use Rattle.whole.specs.SegmentCall.{numberAt, pointOf, planesOf, viewLength, onGrid}
+use Rattle.whole.specs.SegmentCall.{numberAt, pointOf, planesOf, viewLength, segmentOnGrid}
 use Rattle.whole.proofs.Limits.{counted}
 use Rattle.whole.proofs.Checks.{other-first, other-second, too-short, too-few, too-many, other-length, off-grid, answered}
 use Rattle.whole.proofs.segment.intersects_segment.Statement.{statement}
@@ -106,7 +106,7 @@ returns-7 c =
     let k = K .count-of .result in
     let e = counted (numberAt v 0) k (G .count-of-arg .given) (K .count-of .ensures) in
     let n = N .if6 .left ∙ W .view-length2 .ensures in
-    let g : R0 .point-within .result && R1 .point-within2 .result && R2 .planes-within .result ≡ onGrid (planesOf v k) (pointOf p) (pointOf q) =
+    let g : R0 .point-within .result && R1 .point-within2 .result && R2 .planes-within .result ≡ segmentOnGrid (planesOf v k) (pointOf p) (pointOf q) =
     λ t. R0 .point-within .ensures t && R1 .point-within2 .ensures t && R2 .planes-within .ensures t in
     off-grid v p q h i l k e (o .before .if4 .left) (o .if5 .left) n (sym g ∙ not-true _ (c .if7 .taken))
 
@@ -133,7 +133,7 @@ segment-in-view-requires c κs =
     let k = K .count-of .result in
     let e = counted (numberAt v 0) k (G .count-of-arg .given) (K .count-of .ensures) in
     let n = N .if6 .left ∙ W .view-length2 .ensures in
-    let g : R0 .point-within .result && R1 .point-within2 .result && R2 .planes-within .result ≡ onGrid (planesOf v k) (pointOf p) (pointOf q) =
+    let g : R0 .point-within .result && R1 .point-within2 .result && R2 .planes-within .result ≡ segmentOnGrid (planesOf v k) (pointOf p) (pointOf q) =
     λ t. R0 .point-within .ensures t && R1 .point-within2 .ensures t && R2 .planes-within .ensures t in
     (omega (arith, n), h, i, sym g ∙ not-false _ (c .if7 .left))
 
@@ -161,7 +161,7 @@ returns-8 c =
     let k = K .count-of .result in
     let e = counted (numberAt v 0) k (G .count-of-arg .given) (K .count-of .ensures) in
     let n = N .if6 .left ∙ W .view-length2 .ensures in
-    let g : R0 .point-within .result && R1 .point-within2 .result && R2 .planes-within .result ≡ onGrid (planesOf v k) (pointOf p) (pointOf q) =
+    let g : R0 .point-within .result && R1 .point-within2 .result && R2 .planes-within .result ≡ segmentOnGrid (planesOf v k) (pointOf p) (pointOf q) =
     λ t. R0 .point-within .ensures t && R1 .point-within2 .ensures t && R2 .planes-within .ensures t in
     answered v p q h i l k e (o .before .if4 .left) (o .if5 .left) n (sym g ∙ not-false _ (Q .before .if7 .left)) _
     (c .of .ensures ∙ ap result (Q .segment-in-view .ensures))

@@ -1,17 +1,19 @@
 -- `segment_in_view` meets its contract: the planes left and the span so far decide. Assumes nothing.
-use mathlib.Core.Path.{_≡_, sym, ap, subst, _∙_}
+use mathlib.Core.Path.{_≡_, refl, sym, subst, _∙_}
 use mathlib.Core.Bool.{true}
 use Prim.Native.Nat.{_-_, _≤_}
 use native.Mathlib.Omega.{arith}
 use borrow.Author.Needs.{needs}
 use lib.Dec.{lit≤}
+use lib.ListN.{drop}
 use lib.IntN.{ℤ, natAbs, _-ℤ_}
 use Rattle.number.specs.Every.{every}
-use Rattle.whole.specs.Segment.{firstEnd, secondEnd, leaves, segmentInView}
-use Rattle.whole.specs.SegmentCall.{pointOf, planeAt, planesFrom, planesOf, planeWithin}
-use Rattle.whole.specs.Steps.{farthest, widest, SmallSpan}
+use Rattle.number.proofs.Tabulate.{next as next-plane, none as no-plane}
+use Rattle.number.proofs.ListLoops.{each-holds}
+use Rattle.whole.specs.Segment.{leaves, segmentInView}
+use Rattle.whole.specs.SegmentCall.{pointOf, planeAt, planesOf, planeWithin}
+use Rattle.whole.specs.Steps.{gapLimit, widest, SmallSpan}
 use Rattle.whole.proofs.Gaps.{gap-read, gap-wide}
-use Rattle.whole.proofs.Planes.{next-plane, no-plane, all-left, each-holds}
 use Rattle.whole.proofs.Leaves.{from-the-ends, both-behind, goes-on, none-left}
 use Rattle.whole.proofs.Limits.{grid-parts}
 use Rattle.whole.proofs.segment.segment_in_view.Statement.{statement}
@@ -19,8 +21,8 @@ use Rattle.whole.proofs.segment.segment_in_view.Tie as tie
 
 abbrev Inv-loop : tie.InvT-loop
 Inv-loop view count p0 p1 span₀ i₀ span i =
-    (i ≤ count) × SmallSpan span × (every planeWithin (planesFrom view i (count - i)) ≡ true)
-    × (leaves (planesFrom view i (count - i)) (pointOf p0) (pointOf p1) (span .start) (span .end) ≡ segmentInView (planesOf view count) (pointOf p0) (pointOf p1))
+    (i ≤ count) × SmallSpan span × (every planeWithin (drop i (planesOf view count)) ≡ true)
+    × (leaves (drop i (planesOf view count)) (pointOf p0) (pointOf p1) (span .start) (span .end) ≡ segmentInView (planesOf view count) (pointOf p0) (pointOf p1))
 
 abbrev μ-loop : tie.MeasureT-loop
 μ-loop view count p0 p1 span₀ i₀ span i = count - i
@@ -33,8 +35,8 @@ loop-holds c =
     let B = pointOf (c .args .p1 .now) in (
       omega arith,
       record { start = record { top = lit≤ tt; bottom = lit≤ tt }; end = record { top = lit≤ tt; bottom = lit≤ tt } },
-      ap (every planeWithin) (all-left v n) ∙ grid-parts (planesOf v n) A B (c .pre .3) .2,
-      (λ t. leaves (all-left v n t) A B firstEnd secondEnd) ∙ from-the-ends (planesOf v n) A B,
+      grid-parts (planesOf v n) A B (c .pre .3) .2,
+      from-the-ends (planesOf v n) A B,
     )
 
 gap-requires : tie.Need-gap-requires Inv-loop μ-loop
@@ -42,7 +44,7 @@ gap-requires c κs =
     let l = c .before .loop in
     let s = c .before .before in
     let v = s .args .view .now in
-    let next = next-plane v (s .args .count) (l .i) (omega arith) in
+    let next = next-plane (planeAt v) (s .args .count) (l .i) _ (omega arith) refl in
     (omega arith, s .pre .1, each-holds planeWithin _ _ _ next (l .inv .2) .0, grid-parts (planesOf v (s .args .count)) (pointOf (s .args .p0 .now)) (pointOf (s .args .p1 .now)) (s .pre .3) .0)
 
 gap-requires-2 : tie.Need-gap-requires-2 Inv-loop μ-loop
@@ -50,7 +52,7 @@ gap-requires-2 c κs =
     let l = c .before .before .loop in
     let s = c .before .before .before in
     let v = s .args .view .now in
-    let next = next-plane v (s .args .count) (l .i) (omega arith) in
+    let next = next-plane (planeAt v) (s .args .count) (l .i) _ (omega arith) refl in
     (omega arith, s .pre .2, each-holds planeWithin _ _ _ next (l .inv .2) .0, grid-parts (planesOf v (s .args .count)) (pointOf (s .args .p0 .now)) (pointOf (s .args .p1 .now)) (s .pre .3) .1)
 
 returns : tie.Need-returns Inv-loop μ-loop
@@ -63,7 +65,7 @@ returns c =
     let v = s .args .view .now in
     let A = pointOf (s .args .p0 .now) in
     let B = pointOf (s .args .p1 .now) in
-    let next = next-plane v (s .args .count) (l .i) (omega arith) in
+    let next = next-plane (planeAt v) (s .args .count) (l .i) _ (omega arith) refl in
     let each = each-holds planeWithin _ _ _ next (l .inv .2) in
     let grid = grid-parts (planesOf v (s .args .count)) A B (s .pre .3) in
     let P = planeAt v (l .i) in
@@ -81,7 +83,7 @@ cut-requires c κs =
     let v = s .args .view .now in
     let A = pointOf (s .args .p0 .now) in
     let B = pointOf (s .args .p1 .now) in
-    let next = next-plane v (s .args .count) (l .i) (omega arith) in
+    let next = next-plane (planeAt v) (s .args .count) (l .i) _ (omega arith) refl in
     let each = each-holds planeWithin _ _ _ next (l .inv .2) in
     let grid = grid-parts (planesOf v (s .args .count)) A B (s .pre .3) in
     let P = planeAt v (l .i) in
@@ -89,8 +91,8 @@ cut-requires c κs =
     let F' = gap-read P B (two .gap2 .result) (two .gap2 .ensures) (each .0) (grid .1) in (
       l .inv .1,
       record {
-        first = subst (λ (z : ℤ). natAbs z ≤ farthest) (sym (F .is)) (F .size);
-        second = subst (λ (z : ℤ). natAbs z ≤ farthest) (sym (F' .is)) (F' .size);
+        first = subst (λ (z : ℤ). natAbs z ≤ gapLimit) (sym (F .is)) (F .size);
+        second = subst (λ (z : ℤ). natAbs z ≤ gapLimit) (sym (F' .is)) (F' .size);
         apart = subst (λ (z : ℤ). natAbs z ≤ widest) (sym (λ t. F' .is t -ℤ F .is t)) (gap-wide P A B (each .0) (grid .0) (grid .1));
       },
     )
@@ -111,7 +113,7 @@ loop-again c =
     let v = s .args .view .now in
     let A = pointOf (s .args .p0 .now) in
     let B = pointOf (s .args .p1 .now) in
-    let next = next-plane v (s .args .count) (l .i) (omega arith) in
+    let next = next-plane (planeAt v) (s .args .count) (l .i) _ (omega arith) refl in
     let each = each-holds planeWithin _ _ _ next (l .inv .2) in
     let grid = grid-parts (planesOf v (s .args .count)) A B (s .pre .3) in
     let P = planeAt v (l .i) in
@@ -131,7 +133,7 @@ returns-2 c =
     let at-loop = c .before .before .before .before in
     let l = at-loop .loop in
     let a = at-loop .before .args in
-    none-left _ _ _ (no-plane (a .view .now) (a .count) (l .i) (omega arith)) _ _ _ (c .less .ensures) ∙ l .inv .3
+    none-left _ _ _ (no-plane (planeAt (a .view .now)) (a .count) (l .i) (omega arith)) _ _ _ (c .less .ensures) ∙ l .inv .3
 
 pub segment-in-view-spec : {M : Type 1} → statement M
 segment-in-view-spec =

@@ -1,22 +1,24 @@
 -- `planes_within` meets its contract: the planes left decide. Assumes nothing.
-use mathlib.Core.Path.{_≡_, ap, _∙_}
+use mathlib.Core.Path.{_≡_, refl, _∙_}
 use Prim.Native.Nat.{_-_, _≤_}
 use native.Mathlib.Omega.{arith}
 use borrow.Author.Needs.{needs}
+use lib.ListN.{drop}
 use Rattle.number.specs.Every.{every}
-use Rattle.whole.specs.SegmentCall.{planesFrom, planesOf, planeWithin}
-use Rattle.whole.proofs.Planes.{next-plane, no-plane, all-left, fails, holds, all-hold}
+use Rattle.number.proofs.Tabulate.{next, none}
+use Rattle.number.proofs.ListLoops.{fails, holds, all-hold}
+use Rattle.whole.specs.SegmentCall.{planeAt, planesOf, planeWithin}
 use Rattle.whole.proofs.view.planes_within.Statement.{statement}
 use Rattle.whole.proofs.view.planes_within.Tie as tie
 
 abbrev Inv-loop : tie.InvT-loop
-Inv-loop view count i₀ i = (i ≤ count) × (every planeWithin (planesFrom view i (count - i)) ≡ every planeWithin (planesOf view count))
+Inv-loop view count i₀ i = (i ≤ count) × (every planeWithin (drop i (planesOf view count)) ≡ every planeWithin (planesOf view count))
 
 abbrev μ-loop : tie.MeasureT-loop
 μ-loop view count i₀ i = count - i
 
 loop-holds : tie.Need-loop-holds Inv-loop μ-loop
-loop-holds c = (omega arith, ap (every planeWithin) (all-left (c .args .view .now) (c .args .count)))
+loop-holds c = (omega arith, refl)
 
 plane-within-requires : tie.Need-plane-within-requires Inv-loop μ-loop
 plane-within-requires c κs = omega arith
@@ -25,7 +27,7 @@ returns : tie.Need-returns Inv-loop μ-loop
 returns c =
     let l = c .before .before .before .loop in
     let a = c .before .before .before .before .args in
-    fails planeWithin _ _ _ (next-plane (a .view .now) (a .count) (l .i) (omega arith)) _ (c .before .plane-within .ensures) (c .if1 .taken) ∙ l .inv .1
+    fails planeWithin _ _ _ (next (planeAt (a .view .now)) (a .count) (l .i) _ (omega arith) refl) _ (c .before .plane-within .ensures) (c .if1 .taken) ∙ l .inv .1
 
 add-i : tie.Need-add-i Inv-loop μ-loop
 add-i c = search needs
@@ -38,14 +40,14 @@ loop-again c =
     let l = c .before .before .before .loop in
     let a = c .before .before .before .before .args in (
       omega arith,
-      holds planeWithin _ _ _ (next-plane (a .view .now) (a .count) (l .i) (omega arith)) _ (c .before .plane-within .ensures) (c .if1 .left) ∙ l .inv .1,
+      holds planeWithin _ _ _ (next (planeAt (a .view .now)) (a .count) (l .i) _ (omega arith) refl) _ (c .before .plane-within .ensures) (c .if1 .left) ∙ l .inv .1,
     )
 
 returns-2 : tie.Need-returns-2 Inv-loop μ-loop
 returns-2 c =
     let l = c .before .loop in
     let a = c .before .before .args in
-    all-hold planeWithin _ (no-plane (a .view .now) (a .count) (l .i) (omega arith)) ∙ l .inv .1
+    all-hold planeWithin _ (none (planeAt (a .view .now)) (a .count) (l .i) (omega arith)) ∙ l .inv .1
 
 pub planes-within-spec : {M : Type 1} → statement M
 planes-within-spec = tie.close (tie.spec Inv-loop μ-loop loop-holds plane-within-requires returns add-i loop-less loop-again returns-2)

@@ -7,13 +7,13 @@ use Rattle.matrix.proofs.Literals.{zero-bits, one-bits}
 use Rattle.verdict.specs.declared.plane.Plane.{Plane}
 use Rattle.blocking.specs.declared.cuts.Cut.{Cut}
 use Rattle.blocking.specs.declared.cuts.Cuts.{Cuts}
-use Rattle.blocking.specs.Steps.{cutFrom, cutAtStart, cutAtEnd, withCut, withPlane}
+use Rattle.blocking.specs.Steps.{cutFrom, cutAtStart, cutAtEnd, withCut, cutsWith}
 use Rattle.blocking.proofs.cuts.Cuts.with.Statement.{statement}
 use Rattle.blocking.proofs.cuts.Cuts.with.Tie as tie
 
 both : (s : Cuts) (p : Plane) (a b : Vec3d) (i : ℕ) (x y : Cut) → x ≡ withCut (s .start) (cutAtStart a b p) i → y ≡ withCut (s .end) (cutAtEnd a b p) i
-    → _≡_ {A = Cuts} (record { start = x; end = y }) (withPlane s p a b i)
-unfolding withPlane
+    → _≡_ {A = Cuts} (record { start = x; end = y }) (cutsWith s p a b i)
+unfolding cutsWith
 both s p a b i x y e f = λ t. record { start = e t; end = f t }
 
 returns : tie.Need-returns

@@ -1,5 +1,5 @@
 -- `Range3d::are_numbers` meets its contract by its tests, those along z first. Assumes nothing.
-use mathlib.Core.Path.{_≡_, refl, sym, _∙_}
+use mathlib.Core.Path.{_≡_}
 use mathlib.Core.Bool.{Bool, true, false, _&&_}
 use borrow.Author.Tests.{not-true, not-false}
 use Rattle.matrix.specs.declared.range.Range3d.{Range3d}

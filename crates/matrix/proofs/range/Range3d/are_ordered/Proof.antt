@@ -1,5 +1,5 @@
 -- `Range3d::are_ordered` meets its contract by its tests. Assumes nothing.
-use mathlib.Core.Path.{_≡_, sym, ap, ap₂, _∙_}
+use mathlib.Core.Path.{_≡_, sym, ap, _∙_}
 use mathlib.Core.Bool.{Bool, true, false, _&&_}
 use borrow.Author.Tests.{not-true, not-false}
 use Rattle.matrix.proofs.range.Range3d.are_ordered.Statement.{statement}

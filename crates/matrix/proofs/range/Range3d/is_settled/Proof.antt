@@ -5,17 +5,17 @@ use borrow.Author.Tests.{not-true, not-false}
 use lib.Dec.{T}
 use Rattle.matrix.specs.declared.vec.Vec3d.{Vec3d}
 use Rattle.matrix.specs.declared.range.Range3d.{Range3d}
-use Rattle.matrix.specs.Steps.{numbersAlong, noNegativeZeros, settled}
+use Rattle.matrix.specs.Steps.{numbersAlong, noNegativeZeros, signsSettled}
 use Rattle.matrix.proofs.range.Range3d.is_settled.Statement.{statement}
 use Rattle.matrix.proofs.range.Range3d.is_settled.Tie as tie
 
 module _ (r : Range3d) (v : Vec3d) (s t u : Bool) (p : s ≡ numbersAlong r 0) (q : t ≡ numbersAlong r 1) (e : u ≡ numbersAlong r 2) where
-  some-fails : (s && t && u) ≡ false → false ≡ settled r v
-  unfolding settled
+  some-fails : (s && t && u) ≡ false → false ≡ signsSettled r v
+  unfolding signsSettled
   some-fails h = rw (← p, ← q, ← e, h)
 
-  all-hold : (z : Bool) → (s && t && u) ≡ true → z ≡ noNegativeZeros v → z ≡ settled r v
-  unfolding settled
+  all-hold : (z : Bool) → (s && t && u) ≡ true → z ≡ noNegativeZeros v → z ≡ signsSettled r v
+  unfolding signsSettled
   all-hold z h k = rw (← p, ← q, ← e, h) k
 
 returns : tie.Need-returns

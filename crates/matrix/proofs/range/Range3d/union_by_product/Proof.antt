@@ -1,5 +1,5 @@
 -- `Range3d::union_by_product` meets its contract: by the law of two ranges in order, or as a union. Assumes nothing.
-use mathlib.Core.Path.{sym, ap, _∙_}
+use mathlib.Core.Path.{ap, _∙_}
 use Rattle.matrix.specs.Range.{union}
 use Rattle.matrix.proofs.Ordered.{in-order, joined-in-order}
 use Rattle.matrix.proofs.range.Range3d.union_by_product.Statement.{statement}

@@ -1,6 +1,6 @@
 -- `Vec3d::has_no_negative_zero` meets its contract: by its tests, and as every f64 is a value. Assumes nothing.
 use mathlib.Core.Path.{_≡_}
-use mathlib.Core.Bool.{Bool, not, _&&_}
+use mathlib.Core.Bool.{not, _&&_}
 use Prim.Native.Nat.{ℕ, _^_}
 use borrow.Author.Needs.{needs}
 use lib.Dec.{eqb}

@@ -8,7 +8,7 @@ use native.Mathlib.Nat.{div-add-mod', zero-mul, one-mul, mul-le-mul-right}
 use native.Mathlib.Omega.{arith}
 use borrow.Author.Needs.{needs}
 use lib.Dec.{T, leb, leb→le, nleb→lt, ltb, ltb→lt, nltb→le}
-use Rattle.number.specs.Search.{After}
+use Rattle.number.specs.Search.{AfterBit}
 use Rattle.number.specs.declared.root.PartialRoot.{PartialRoot}
 use Rattle.number.proofs.Search.{next}
 use Rattle.number.proofs.root.PartialRoot.tried.Statement.{statement}
@@ -91,7 +91,7 @@ returns c =
     let d = b .wrapping-sub-u64 in
     let e = same _ _ _ _ (c .before .either .ensures) (ap (λ (i : ℕ). 2 * i) (c .either2 .ensures))
     ∙ chosen (2 ^ 63) (a .self .left) (a .self .trial) (d .result) (omega (arith, p .1)) (p .2) (search needs) (d .ensures) _ _ in
-    record { is = e; next = λ n h s. subst (After n (a .bit / 2)) (sym e) (next n (a .bit) (a .self) h s) }
+    record { is = e; next = λ n h s. subst (AfterBit n (a .bit / 2)) (sym e) (next n (a .bit) (a .self) h s) }
 
 pub tried-spec : {M : Type 1} → statement M
 tried-spec =

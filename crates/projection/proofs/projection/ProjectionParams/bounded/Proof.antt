@@ -3,7 +3,7 @@ use mathlib.Core.Path.{_≡_, refl, _∙_}
 use mathlib.Core.Bool.{Bool, true, false, _&&_}
 use borrow.Author.Needs.{needs}
 use lib.Ieee.Scale.{finite}
-use Rattle.number.specs.Every.{everyBelow}
+use Rattle.number.specs.Every.{every, everyBelow}
 use Rattle.number.specs.Slice.{allFinite}
 use Rattle.number.proofs.Tests.{and-true}
 use Rattle.projection.specs.declared.projection.ProjectionParams.{ProjectionParams}
@@ -21,7 +21,7 @@ six true true true true false f = refl
 six true true true true true f = and-true f
 
 of-extent : (p : ProjectionParams) → allFinite (extent p) ≡ bounded p
-unfolding allFinite bounded everyBelow
+unfolding every bounded everyBelow
 of-extent p = six (finite (p .left)) (finite (p .right)) (finite (p .bottom)) (finite (p .top)) (finite (p .near)) (finite (p .far))
 
 returns : tie.Need-returns

@@ -8,25 +8,25 @@ use Rattle.matrix.proofs.Literals.{zero-bits, one-bits}
 use Rattle.projection.specs.declared.projection.Projection.the-variants.{Perspective, Orthographic}
 use Rattle.projection.specs.declared.projection.ProjectionParams.{ProjectionParams}
 use Rattle.projection.specs.declared.projection.Loaded.the-variants.{Params, UnknownKind}
-use Rattle.projection.specs.Projection.{paramsOf, loaded}
+use Rattle.projection.specs.Projection.{paramsOf, paramsLoaded}
 use Rattle.projection.proofs.projection.ProjectionParams.load.Statement.{statement}
 use Rattle.projection.proofs.projection.ProjectionParams.load.Tie as tie
 
 module _ (s : List Float) (k : Float) (h : k ≡ at s 0) where
-  first : (p : ProjectionParams) → eq k (ofBits binary64 0) ≡ true → p ≡ paramsOf Perspective s → Params p ≡ loaded s
-  unfolding loaded
+  first : (p : ProjectionParams) → eq k (ofBits binary64 0) ≡ true → p ≡ paramsOf Perspective s → Params p ≡ paramsLoaded s
+  unfolding paramsLoaded
   first p t i = let u = rw (zero-bits, h) at t in rw (i, u)
 
   second : (p : ProjectionParams) → eq k (ofBits binary64 0) ≡ false → eq k (ofBits binary64 0x3ff0_0000_0000_0000) ≡ true → p ≡ paramsOf Orthographic s
-      → Params p ≡ loaded s
-  unfolding loaded
+      → Params p ≡ paramsLoaded s
+  unfolding paramsLoaded
   second p t v i =
       let u = rw (zero-bits, h) at t in
       let w = rw (one-bits, h) at v in
       rw (i, u, w)
 
-  neither : eq k (ofBits binary64 0) ≡ false → eq k (ofBits binary64 0x3ff0_0000_0000_0000) ≡ false → UnknownKind ≡ loaded s
-  unfolding loaded
+  neither : eq k (ofBits binary64 0) ≡ false → eq k (ofBits binary64 0x3ff0_0000_0000_0000) ≡ false → UnknownKind ≡ paramsLoaded s
+  unfolding paramsLoaded
   neither t v =
       let u = rw (zero-bits, h) at t in
       let w = rw (one-bits, h) at v in

@@ -9,11 +9,11 @@ use Rattle.matrix.proofs.Literals.{zero-bits, min-length-bits}
 use Rattle.verdict.specs.declared.plane.Plane.{Plane}
 use Rattle.verdict.specs.declared.ray.Ray.{Ray}
 use Rattle.verdict.specs.declared.ray.PlaneHit.the-variants.{At, Miss}
-use Rattle.verdict.specs.Ray.{facing, distanceAlong, planeHit}
+use Rattle.verdict.specs.Ray.{alongNormal, distanceAlong, planeHit}
 use Rattle.verdict.proofs.ray.Ray.intersect_plane.Statement.{statement}
 use Rattle.verdict.proofs.ray.Ray.intersect_plane.Tie as tie
 
-module _ (r : Ray) (p : Plane) (f a : Float) (h : f ≡ facing r p) (i : a ≡ absOf f) where
+module _ (r : Ray) (p : Plane) (f a : Float) (h : f ≡ alongNormal r p) (i : a ≡ absOf f) where
   beside : lt a (ofBits binary64 0x3ddb_7cdf_d9d7_bdbb) ≡ true → Miss ≡ planeHit r p
   unfolding planeHit
   beside t = let u = rw (i, min-length-bits, h) at t in rw u

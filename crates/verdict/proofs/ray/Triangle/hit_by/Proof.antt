@@ -11,12 +11,12 @@ use Rattle.verdict.specs.declared.ray.Triangle.{Triangle}
 use Rattle.verdict.specs.declared.ray.PlaneHit.{PlaneHit}
 use Rattle.verdict.specs.declared.ray.PlaneHit.the-variants.{At}
 use Rattle.verdict.specs.declared.ray.TriangleHit.{TriangleHit}
-use Rattle.verdict.specs.Ray.{pointAt, planeHit, projected, weighed, within, meetingOf, hitIn, hitOf}
+use Rattle.verdict.specs.Ray.{pointAt, planeHit, projected, weighed, meetingAt, meetingOf, hitIn, hitOf}
 use Rattle.verdict.proofs.ray.Triangle.hit_by.Statement.{statement}
 use Rattle.verdict.proofs.ray.Triangle.hit_by.Tie as tie
 
 module _ (r : Ray) (t : Triangle) (hit : PlaneHit) (h : hit ≡ planeHit r (t .plane)) where
-  by-case : (k : PlaneHit) → hit ≡ k → hitIn (within k r t) ≡ hitOf r t
+  by-case : (k : PlaneHit) → hit ≡ k → hitIn (meetingAt k r t) ≡ hitOf r t
   unfolding hitOf meetingOf
   by-case k q = rw (← q, h)
 

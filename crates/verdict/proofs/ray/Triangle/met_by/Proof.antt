@@ -11,12 +11,12 @@ use Rattle.verdict.specs.declared.ray.Flat.{Flat}
 use Rattle.verdict.specs.declared.ray.Triangle.{Triangle}
 use Rattle.verdict.specs.declared.ray.PlaneHit.{PlaneHit}
 use Rattle.verdict.specs.declared.ray.PlaneHit.the-variants.{At, Miss}
-use Rattle.verdict.specs.Ray.{pointAt, planeHit, projected, betaOf, alphaOf, gammaOf, weighed, within, meetingOf}
+use Rattle.verdict.specs.Ray.{pointAt, planeHit, projected, betaOf, alphaOf, gammaOf, weighed, meetingAt, meetingOf}
 use Rattle.verdict.proofs.ray.Triangle.met_by.Statement.{statement}
 use Rattle.verdict.proofs.ray.Triangle.met_by.Tie as tie
 
 module _ (r : Ray) (t : Triangle) (hit : PlaneHit) (h : hit ≡ planeHit r (t .plane)) where
-  by-case : (k : PlaneHit) → hit ≡ k → within k r t ≡ meetingOf r t
+  by-case : (k : PlaneHit) → hit ≡ k → meetingAt k r t ≡ meetingOf r t
   unfolding meetingOf
   by-case k q = rw (← q, h)
 

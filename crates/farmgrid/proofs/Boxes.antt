@@ -1,0 +1,3 @@
+pub mod BoxReach
+pub mod BoxPlane
+pub mod BoxInView

@@ -1,0 +1,5 @@
+pub mod Below
+pub mod RangeCorners
+pub mod ClipSides
+pub mod ClipSpace
+pub mod ClipOutside

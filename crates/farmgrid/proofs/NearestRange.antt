@@ -1,0 +1,2 @@
+pub mod RangeDistance
+pub mod Nearest

@@ -1,0 +1,9 @@
+pub mod Value
+pub mod Compare
+pub mod Exact
+pub mod Quotient
+pub mod Fit
+pub mod WholeFloats
+pub mod OneFloat
+pub mod WholeSigns
+pub mod WholeSums

@@ -1,0 +1,11 @@
+pub mod Singles
+pub mod QuarterTurns
+pub mod InversePlacements
+pub mod WholeMatrices
+pub mod WholePlacements
+pub mod Units
+pub mod TurnDeterminants
+pub mod Cofactors
+pub mod Inverses
+pub mod WholeRanges
+pub mod PlacedRanges

@@ -1,0 +1,10 @@
+pub mod FiniteNumbers
+pub mod Counts
+pub mod Answers
+pub mod Verdicts
+pub mod MorePlanes
+pub mod BlockingPlane
+pub mod PlanesBehind
+pub mod WholeRecords
+pub mod BothEngines
+pub mod Survey

@@ -1,0 +1,9 @@
+pub mod Dot
+pub mod Distance
+pub mod Fractions
+pub mod Span
+pub mod RoundedSpan
+pub mod EveryPlane
+pub mod ExactPoints
+pub mod Segment
+pub mod WholeSegment

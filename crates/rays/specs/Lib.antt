@@ -1,0 +1,4 @@
+-- What the contracts of this crate cite, and what a reader must believe.
+pub mod Rays
+pub mod EachCall
+pub mod Steps

@@ -1,0 +1,3 @@
+// Many rays, each asked of one triangle.
+pub mod rays;
+pub mod rays_calls;
