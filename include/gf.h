@@ -27,7 +27,7 @@
  *   5  a miss
  *   6  a matrix is not a projection
  *   7  a coordinate is off the grid, or a whole number is past its limit there; a plane or a box is none of the farm grid
- *   8  a number of a camera's record is not finite
+ *   8  a number of a camera's record, or of a volume made of matrices, is not finite
  *   9  a farm file is too short, or its directory does not say where its sections lie
  *   10 a section of a farm file is not as long as its record
  *   11 a group of boxes is empty, or has more numbers than 256 boxes
@@ -79,7 +79,7 @@
 #include <stdint.h>
 
 /* The second number rises with each change of what a function takes or answers, the third with any other. */
-#define GF_VERSION "0.17.0"
+#define GF_VERSION "0.18.0"
 
 /* The limits of a volume's count of planes, and of a view's. */
 #define GF_FEWEST_PLANES 6
@@ -275,7 +275,7 @@ uint32_t gf_projection_matrix(const double *params, size_t params_len, double *o
  * In: m 16. Out: 7 numbers. Refuses: 1, 2, 6. */
 uint32_t gf_projection_from_matrix(const double *m, size_t m_len, double *out, size_t out_len);
 
-/* ---- cameras */
+/* ---- cameras, and their volumes */
 
 /* The camera of a view, which carries the world into camera space, and a projection. A lens of twice the focal length behind
  * apertures of twice the size projects alike, so that the focal length is told besides. Focal length, apertures and offsets
@@ -288,6 +288,20 @@ uint32_t gf_projection_from_matrix(const double *m, size_t m_len, double *out, s
  * gets 8. A focal length of 0 or below, and near above far, are accepted. With status 0 all 24 numbers are finite.
  * In: view 16, projection 16. Out: 24 numbers. Refuses: 1, 2, 4, 6, 8. */
 uint32_t gf_camera_set_from_view_and_projection(const double *view, size_t view_len, const double *projection, size_t projection_len, float focal_length, double *out, size_t out_len);
+
+/* The volume of a view, which carries the world into camera space, and a projection: six planes and four rays, for every function
+ * that takes a volume. m is the product of the two (as gf_product). A point, as a row vector, becomes the clip point that m makes of
+ * it, and is seen where x, y and z go from -w to w. So left, bottom and near are the sums of m's fourth column and its first,
+ * second and third, and right, top and far are the fourth less these: of each the first three numbers are the normal, which is of any
+ * length, and the last, with its sign turned, is the distance. Each number is one rounded addition or subtraction; where m is whole
+ * numbers, so are the planes. With i the inverse of m (as gf_inverse), the ray at x and y starts at the point x, y, -1 through i (as
+ * gf_transform) and goes toward x, y, 0 through i, its direction made unit length. The rays are those at -1,-1; -1,1; 1,1; 1,-1.
+ * A projection without a far end is taken: its far plane has a normal of zeros. 4: m has no inverse (as gf_inverse). 8: one of the
+ * 49 numbers is not finite. With status 0 all 49 numbers are finite.
+ * Example: of the identity and the projection with the rows 2,0,0,0; 0,4,0,0; 0,0,-1.5,-1; 0,0,-5,0 near is 0,0,-2.5;5, far
+ * 0,0,0.5;-5 and left 2,0,-1;-0.
+ * In: view 16, projection 16. Out: 49 numbers. Refuses: 1, 2, 4, 8. */
+uint32_t gf_volume_from_view_and_projection(const double *view, size_t view_len, const double *projection, size_t projection_len, double *out, size_t out_len);
 
 /* ---- farm files */
 

@@ -33,9 +33,10 @@ enum Ask {
     Behind,
     WholeBox,
     ExactBox,
+    Volume,
 }
 
-const NAMES: [&str; 16] = [
+const NAMES: [&str; 17] = [
     "intersects_point",
     "intersects_segment",
     "intersects_bbox",
@@ -52,6 +53,7 @@ const NAMES: [&str; 16] = [
     "blocking_planes",
     "whole_intersects_bbox",
     "exact_bbox",
+    "volume_from_view_and_projection",
 ];
 
 /// One who answers: the Rust, or the archive.
@@ -202,6 +204,7 @@ pub fn all(ops: &[Box<dyn Op>]) -> Vec<Farm<'_>> {
         farm("planes behind", &[Ask::Behind], planes_behind),
         farm("oblique planes behind", &[Ask::Behind], oblique_behind),
         farm("points in clip space", &[Ask::ViewVolume], clipped),
+        farm("points of whole views", &[Ask::Volume, Ask::Point], seen_points),
         farm("oblique blocks", &[Ask::WholeBox], oblique_blocks),
         farm("turned oblique blocks", &[Ask::WholeBox], turned_blocks),
         farm("blocks and a plane more", &[Ask::WholeBox], screened_blocks),
@@ -520,6 +523,31 @@ fn clipped(engines: &[Engine], case: u64, rng: &mut Rng) -> Result<usize, String
         let verdict = engine.verdict(Ask::ViewVolume, &[&given.record(), &inputs::whole_matrix(&camera)])?;
         engine.expect("a box lost", inside && !verdict, false, &(given, camera, point))?;
         engine.expect("a box in clip space", verdict, by_corners, &(given, camera))?;
+    }
+    Ok(outcome(inside))
+}
+
+/// By the volume of two matrices whose product is whole, a grid point is in view
+/// just where its clip point has x, y and z from −w to w; and the volume's planes
+/// are the sums and differences of columns, exactly.
+fn seen_points(engines: &[Engine], _: u64, rng: &mut Rng) -> Result<usize, String> {
+    let (camera, p) = inputs::seen_case(rng);
+    let (view, projection) = inputs::parted(rng, &camera);
+    let [x, y, z, w] = inputs::ExactPoint::through(p.map(i128::from), 1, &camera);
+    let inside = [x, y, z].iter().all(|&c| -w <= c && c <= w);
+    let planes: Vec<f64> = (0..24)
+        .map(|i| {
+            let (side, k) = (i / 4, i % 4);
+            let (last, other) = (camera[k][3], camera[k][side / 2]);
+            let number = if side % 2 == 0 { last + other } else { last - other };
+            (if k == 3 { -number } else { number }) as f64
+        })
+        .collect();
+    for engine in engines {
+        let volume: [f64; 49] = engine.numbers(Ask::Volume, &[&view, &projection])?;
+        engine.expect("the planes of a whole view", &volume[1..25], &planes[..], &(view, projection))?;
+        let verdict = engine.verdict(Ask::Point, &[&volume, &floats(p)])?;
+        engine.expect("a point of a whole view", verdict, inside, &(camera, p))?;
     }
     Ok(outcome(inside))
 }

@@ -115,8 +115,13 @@ fn read(words: &[&str]) -> Result<bool, String> {
     };
     let program = env::var_os("FARM_FILE").ok_or("FARM_FILE names the program")?;
     let explain = env::var_os("EXPLAIN").ok_or("EXPLAIN names the program")?;
-    let trials: [&dyn Trial; 3] =
-        [&FarmFiles::of_archive(), &Program::farm_file(program.into()), &Program::explain(explain.into())];
+    let camera_view = env::var_os("CAMERA_VIEW").ok_or("CAMERA_VIEW names the program")?;
+    let trials: [&dyn Trial; 4] = [
+        &FarmFiles::of_archive(),
+        &Program::farm_file(program.into()),
+        &Program::explain(explain.into()),
+        &Program::camera_view(camera_view.into()),
+    ];
     Ok(run::run(trials.into_iter(), count, seed()?))
 }
 

@@ -1,5 +1,5 @@
-//! The programs that read a farm file at their standard input: all that they
-//! print, against the judge's lines.
+//! The programs that read a farm file, or two matrices, at their standard input:
+//! all that they print, against what the judge says.
 
 use crate::farm::described;
 use crate::inputs::{self, Boxed, FarmFile, Rng, Volume, bytes_of};
@@ -8,62 +8,83 @@ use crate::reader::{self, LARGEST};
 use crate::trial::Trial;
 use std::fs::{self, File};
 use std::io::{self, Seek, Write};
-use std::path::PathBuf;
+use std::path::{Path, PathBuf};
 use std::process::{Child, ChildStdin, Command, Stdio};
 use std::sync::LazyLock;
 
 pub struct Program {
     name: &'static str,
     path: PathBuf,
-    /// The judge's lines, the files that are always tried, and how others are
-    /// drawn.
-    lines: fn(&[u8]) -> String,
+    /// What the judge prints and the kind of outcome, the inputs that are always
+    /// tried, how others are drawn, and how one is told.
+    judge: fn(&[u8]) -> (Vec<u8>, usize),
     fixed: &'static LazyLock<Vec<Vec<u8>>>,
-    drawn: fn(&mut Rng) -> FarmFile,
+    drawn: fn(&mut Rng) -> Vec<u8>,
+    described: fn(&[u8]) -> String,
     /// What is said where there is no such program.
     missing: Option<String>,
 }
 
+/// The lines of a farm file, and 0 or the number of its refusal.
+fn judged(file: &[u8], lines: String) -> (Vec<u8>, usize) {
+    let status = reader::farm_file(file, &mut [0; reader::BOXES], &mut 0);
+    (lines.into_bytes(), status as usize)
+}
+
 impl Program {
     pub fn farm_file(path: PathBuf) -> Program {
-        Program { name: "program farm_file", lines: reader::lines, fixed: &FIXED, drawn: drawn_file, ..Program::at(path, "FARM_FILE") }
+        Program {
+            name: "program farm_file",
+            missing: missing(&path, "FARM_FILE"),
+            path,
+            judge: |file| judged(file, reader::lines(file)),
+            fixed: &FIXED,
+            drawn: |rng| drawn_file(rng).bytes,
+            described,
+        }
     }
 
     pub fn explain(path: PathBuf) -> Program {
         Program {
             name: "program explain",
-            lines: reader::explained,
+            missing: missing(&path, "EXPLAIN"),
+            judge: |file| judged(file, reader::explained(file)),
             fixed: &EXPLAINED,
-            drawn: drawn_to_explain,
-            ..Program::at(path, "EXPLAIN")
+            drawn: |rng| drawn_to_explain(rng).bytes,
+            ..Program::farm_file(path)
         }
     }
 
-    fn at(path: PathBuf, variable: &str) -> Program {
-        let missing = (!path.is_file())
-            .then(|| format!("not run: there is no program {} ({variable} names another)", path.display()));
-        Program { name: "", path, lines: reader::lines, fixed: &FIXED, drawn: drawn_file, missing }
-    }
-
-    fn draw(&self, case: u64, mut rng: Rng) -> FarmFile {
-        match self.fixed.get(case as usize) {
-            Some(bytes) => FarmFile { bytes: bytes.clone() },
-            None => (self.drawn)(&mut rng),
+    pub fn camera_view(path: PathBuf) -> Program {
+        Program {
+            name: "program camera_view",
+            missing: missing(&path, "CAMERA_VIEW"),
+            path,
+            judge: ops::seen_bytes,
+            fixed: &MATRICES,
+            drawn: |rng| {
+                let (view, projection) = inputs::two_matrices(rng);
+                bytes_of(&[view, projection].concat())
+            },
+            described: |given| format!("{} bytes {given:?}", given.len()),
         }
     }
 
-    /// What is expected for a file, and what the program prints.
-    fn made(&self, case: u64, rng: Rng) -> (Vec<u8>, String, Result<String, String>) {
-        let file = self.draw(case, rng).bytes;
-        let printed = if file.len() == ENDLESS {
-            self.given_without_end(&file)
+    fn draw(&self, case: u64, mut rng: Rng) -> Vec<u8> {
+        self.fixed.get(case as usize).cloned().unwrap_or_else(|| (self.drawn)(&mut rng))
+    }
+
+    /// What is given, and what the program prints for it.
+    fn made(&self, case: u64, rng: Rng) -> (Vec<u8>, Result<Vec<u8>, String>) {
+        let given = self.draw(case, rng);
+        let printed = if given.len() == ENDLESS {
+            self.given_without_end(&given)
         } else if case.is_multiple_of(4) {
-            self.given_as_a_file(&file)
+            self.given_as_a_file(&given)
         } else {
-            self.given_in_pieces(&file, case)
+            self.given_in_pieces(&given, case)
         };
-        let expected = (self.lines)(&file);
-        (file, expected, printed.unwrap_or_else(|error| Err(error.to_string())))
+        (given, printed.unwrap_or_else(|error| Err(error.to_string())))
     }
 
     fn start(&self, input: Stdio) -> io::Result<Child> {
@@ -71,7 +92,7 @@ impl Program {
     }
 
     /// As in `program < file`.
-    fn given_as_a_file(&self, bytes: &[u8]) -> io::Result<Result<String, String>> {
+    fn given_as_a_file(&self, bytes: &[u8]) -> io::Result<Result<Vec<u8>, String>> {
         let mut file = unnamed_file()?;
         file.write_all(bytes)?;
         file.rewind()?;
@@ -79,7 +100,7 @@ impl Program {
     }
 
     /// Through a pipe, whole or in pieces.
-    fn given_in_pieces(&self, bytes: &[u8], case: u64) -> io::Result<Result<String, String>> {
+    fn given_in_pieces(&self, bytes: &[u8], case: u64) -> io::Result<Result<Vec<u8>, String>> {
         let mut child = self.start(Stdio::piped())?;
         let mut input = child.stdin.take().expect("it is piped");
         let piece = match case % 4 {
@@ -98,7 +119,7 @@ impl Program {
 
     /// Much more than a file may have, and the end comes only after a look at
     /// how much of it the program keeps.
-    fn given_without_end(&self, bytes: &[u8]) -> io::Result<Result<String, String>> {
+    fn given_without_end(&self, bytes: &[u8]) -> io::Result<Result<Vec<u8>, String>> {
         let mut child = self.start(Stdio::piped())?;
         let mut input = child.stdin.take().expect("it is piped");
         write(&mut input, bytes)?;
@@ -112,6 +133,11 @@ impl Program {
     }
 }
 
+/// What is said where there is no such program.
+fn missing(path: &Path, variable: &str) -> Option<String> {
+    (!path.is_file()).then(|| format!("not run: there is no program {} ({variable} names another)", path.display()))
+}
+
 /// Writes to a program, which need not read it all.
 fn write(input: &mut ChildStdin, bytes: &[u8]) -> io::Result<()> {
     match input.write_all(bytes) {
@@ -122,13 +148,13 @@ fn write(input: &mut ChildStdin, bytes: &[u8]) -> io::Result<()> {
 
 /// All that a program prints until it ends, if it ends well and says nothing
 /// else.
-fn printed(child: Child) -> io::Result<Result<String, String>> {
+fn printed(child: Child) -> io::Result<Result<Vec<u8>, String>> {
     let output = child.wait_with_output()?;
-    let text = String::from_utf8_lossy(&output.stdout).into_owned();
     Ok(if output.status.success() && output.stderr.is_empty() {
-        Ok(text)
+        Ok(output.stdout)
     } else {
-        Err(format!("{text:?}, {}, {:?}", output.status, String::from_utf8_lossy(&output.stderr)))
+        let [out, err] = [&output.stdout, &output.stderr].map(|text| String::from_utf8_lossy(text));
+        Err(format!("{out:?}, {}, {err:?}", output.status))
     })
 }
 
@@ -194,7 +220,17 @@ pub fn explained_files() -> Vec<Vec<u8>> {
 
 static EXPLAINED: LazyLock<Vec<Vec<u8>>> = LazyLock::new(explained_files);
 
-/// How many files are drawn besides, at most.
+/// Matrices that are always given: too few bytes and too many, a view, one without
+/// an inverse, one that is not finite.
+static MATRICES: LazyLock<Vec<Vec<u8>>> = LazyLock::new(|| {
+    let good = bytes_of(&ops::two_matrices_seen());
+    let lengths = [0, 1, 7, 8, 128, 248, 255, 256, 257, 264, 512, 1 << 16, 4 << 20, ENDLESS];
+    let cut = lengths.map(|size| good.iter().copied().cycle().take(size).collect());
+    let odd = [0.0, f64::NAN, f64::INFINITY, 1e308].map(|x| bytes_of(&[x; 32]));
+    cut.into_iter().chain(odd).collect()
+});
+
+/// How many are drawn besides, at most.
 const DRAWN: u64 = 3000;
 
 impl Trial for Program {
@@ -211,14 +247,17 @@ impl Trial for Program {
     }
 
     fn agree(&self, case: u64, rng: Rng) -> Option<usize> {
-        let (file, expected, printed) = self.made(case, rng);
-        let status = reader::farm_file(&file, &mut [0; reader::BOXES], &mut 0);
-        (printed == Ok(expected)).then_some(status as usize)
+        let (given, printed) = self.made(case, rng);
+        let (expected, outcome) = (self.judge)(&given);
+        (printed == Ok(expected)).then_some(outcome)
     }
 
     fn describe(&self, case: u64, rng: Rng) -> String {
-        let (file, expected, printed) = self.made(case, rng);
-        format!("{}\n      judge {expected:?}\n      ours  {printed:?}", described(&file))
+        let (given, printed) = self.made(case, rng);
+        let text = |bytes: &[u8]| String::from_utf8_lossy(bytes).into_owned();
+        let expected = text(&(self.judge)(&given).0);
+        let printed = printed.map(|bytes| text(&bytes));
+        format!("{}\n      judge {expected:?}\n      ours  {printed:?}", (self.described)(&given))
     }
 }
 
@@ -232,6 +271,11 @@ mod tests {
         for path in ["/bin/true", "/bin/false", "/bin/cat"] {
             let program = Program::farm_file(path.into());
             let few = FIXED.iter().position(|file| file.len() == LARGEST + 1).expect("one is too large") as u64;
+            assert_eq!(program.compare(0..few, 1).differences, few, "{path}");
+        }
+        for path in ["/bin/true", "/bin/false", "/bin/cat"] {
+            let program = Program::camera_view(path.into());
+            let few = MATRICES.iter().position(|given| given.len() > 1 << 16).expect("one is large") as u64;
             assert_eq!(program.compare(0..few, 1).differences, few, "{path}");
         }
         assert!(Program::explain("/no/such/program".into()).cases(100) == 0);

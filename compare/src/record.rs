@@ -24,7 +24,10 @@ const FAMILIES: [&[&str]; 11] = [
         "plane_transformed",
     ],
     &["ray_point", "ray_transformed", "ray_intersect_plane", "ray_intersect_triangle"],
-    &["projection_matrix", "projection_from_matrix", "camera_set_from_view_and_projection"],
+    &[
+        "projection_matrix", "projection_from_matrix", "camera_set_from_view_and_projection",
+        "volume_from_view_and_projection",
+    ],
     &[
         "intersects_point", "intersects_segment", "intersects_triangle", "intersects_bbox", "intersects_view_volume",
         "exact_bbox",
@@ -116,6 +119,7 @@ mod tests {
                 "ray_intersect_plane" | "ray_intersect_triangle" => &[5],
                 "projection_from_matrix" => &[6],
                 "camera_set_from_view_and_projection" => &[4, 6, 8],
+                "volume_from_view_and_projection" => &[4, 8],
                 "range_nearest" | "range_within" | "rays_intersect_triangle" => &[1],
                 "whole_intersects_segment" | "whole_intersects_bbox" => &[1, 7, 12],
                 "blocking_plane" => &[1, 12, 13, 14],

@@ -206,6 +206,35 @@ pub fn clip_case(case: u64, rng: &mut Rng) -> (ClipBox, WholeMatrix, ExactPoint)
     (b, camera, point)
 }
 
+/// A camera's whole matrix that has an inverse, and a grid point: just inside a
+/// side of the clip volume, on it, just outside, or anywhere.
+pub fn seen_case(rng: &mut Rng) -> (WholeMatrix, Whole) {
+    loop {
+        let at = if rng.once_in(2) { grid_point(rng) } else { array::from_fn(|_| rng.whole(50)) };
+        let there = ClipBox { min: at, max: at, matrix: WHOLE_IDENTITY, flag: 0.0 };
+        let p = at.map(i128::from);
+        let last = last_column(rng, p, 1);
+        let others: [Column; 3] = array::from_fn(|_| other_column(rng, &there, p, 1, &last));
+        let camera = array::from_fn(|i| [others[0][i], others[1][i], others[2][i], last[i]]);
+        if whole_determinant(&camera) != 0 {
+            return (camera, at);
+        }
+    }
+}
+
+/// The determinant, by minors of two rows.
+pub fn whole_determinant(m: &WholeMatrix) -> i128 {
+    let minor = |row: usize, a: usize, b: usize| {
+        let at = |i: usize, j: usize| i128::from(m[i][j]);
+        at(row, a) * at(row + 1, b) - at(row, b) * at(row + 1, a)
+    };
+    minor(0, 0, 1) * minor(2, 2, 3) - minor(0, 0, 2) * minor(2, 1, 3)
+        + minor(0, 0, 3) * minor(2, 1, 2)
+        + minor(0, 1, 2) * minor(2, 0, 3)
+        - minor(0, 1, 3) * minor(2, 0, 2)
+        + minor(0, 2, 3) * minor(2, 0, 1)
+}
+
 #[cfg(test)]
 mod tests {
     use super::*;

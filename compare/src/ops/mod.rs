@@ -15,11 +15,13 @@ mod projection;
 mod range;
 mod ray;
 mod verdict;
+mod volume;
 mod whole;
 mod whole_box;
 
 pub use blocking::{asked_to_explain, behind};
 pub use exact_box::{block_seen, parted};
+pub use volume::{seen_bytes, two_matrices_seen};
 pub use whole::whole_lent;
 pub use whole_box::whole_box_lent;
 
@@ -44,6 +46,7 @@ pub fn all() -> Vec<Box<dyn Op>> {
         hail::all(),
         whole_box::all(),
         exact_box::all(),
+        volume::all(),
     ];
     files.into_iter().flatten().collect()
 }

@@ -3,3 +3,4 @@ pub mod RangeCorners
 pub mod ClipSides
 pub mod ClipSpace
 pub mod ClipOutside
+pub mod ClipPlanes

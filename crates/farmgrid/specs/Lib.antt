@@ -5,6 +5,7 @@ pub mod FarmGrid
 pub mod Records
 pub mod Verdicts
 pub mod ClipSpace
+pub mod ClipPlanes
 pub mod Screens
 pub mod BlockingPlane
 pub mod PlanesBehind

@@ -13,4 +13,5 @@ pub mod plane_calls;
 pub mod projection_calls;
 pub mod range_calls;
 pub mod ray_calls;
+pub mod volume_calls;
 pub mod whole_calls;

@@ -11,6 +11,7 @@ use verdict::bbox_calls;
 use verdict::frustum_calls;
 use verdict::plane_calls;
 use verdict::ray_calls;
+use volume::volume::from_view_and_projection;
 
 pub(crate) const COMBINE: u8 = 1;
 
@@ -59,7 +60,8 @@ pub(crate) fn camera_call(operation: u8, a: &[f64], b: &[f64], c: &[f64], out: &
     match operation {
         1 => projection_calls::matrix(a, out).status(),
         2 => projection_calls::from_matrix(a, out).status(),
-        _ => camera_calls::set_from_view_and_projection(a, b, narrow(at(c, 0)), out).status(),
+        3 => camera_calls::set_from_view_and_projection(a, b, narrow(at(c, 0)), out).status(),
+        _ => from_view_and_projection(a, b, out).status(),
     }
 }
 

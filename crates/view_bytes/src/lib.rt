@@ -1,0 +1,2 @@
+// The volume of two matrices, from bytes to bytes.
+pub mod camera_view;

@@ -1,0 +1,3 @@
+-- What the contracts of this crate cite, and what a reader must believe.
+pub mod Volume
+pub mod Accepted

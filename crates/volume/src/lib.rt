@@ -1,0 +1,2 @@
+// The volume of a view and a projection matrix.
+pub mod volume;
