@@ -123,10 +123,29 @@ def other_side(half):
 
 
 def mast(rays):
-    """Where the lines of sight start, if they all start at one point."""
+    """Where the lines of sight meet: where they all start, or the one point that they come from; None if there is no such point."""
     starts = {ray[:3] for ray in rays}
-    start = starts.pop()
-    return start if not starts and all(abs(v) <= BEYOND for v in start) else None
+    start = starts.pop() if len(starts) == 1 else meeting(rays)
+    return start if start and all(abs(v) <= BEYOND for v in start) else None
+
+
+def meeting(rays):
+    """The point that all lines pass within a thousandth of their starts' distance from it; None for lines that are parallel, or that part."""
+    (p, u), (q, v) = ((ray[:3], ray[3:]) for ray in (rays[0], rays[2]))
+    across = dot(u, u) * dot(v, v) - dot(u, v) ** 2
+    if not across > FLAT:
+        return None
+    apart = [b - a for a, b in zip(p, q)]
+    along = (dot(apart, u) * dot(v, v) - dot(apart, v) * dot(u, v)) / across
+    met = tuple(a + along * b for a, b in zip(p, u))
+    return met if all(beside(met, ray) <= 1e-3 * math.dist(met, ray[:3]) for ray in rays) else None
+
+
+def beside(point, ray):
+    """How far a point is from a ray's line."""
+    away = [a - b for a, b in zip(point, ray[:3])]
+    along = dot(away, ray[3:]) / (dot(ray[3:], ray[3:]) or 1.0)
+    return math.hypot(*(a - along * b for a, b in zip(away, ray[3:])))
 
 
 def ground_height(blocks):

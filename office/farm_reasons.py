@@ -2,20 +2,15 @@
 
 Every verdict of the office's pages comes from here, and here it comes from explain; docs/FARM_FILE.md has the form of its lines.
 """
-import os
 import re
-import shutil
-import subprocess
-from pathlib import Path
+
+import farm_programs
 
 LINE = re.compile(r"(\d+) (?:(yes)(?: (exact-no))?|no(?: (empty)|((?: \d+)+)(?: (exact-yes))?))")
-HERE = Path(__file__).resolve().parent
-# Where explain stands beside the tools: in the repository, or as `install` puts both under a prefix.
-BESIDE = HERE.parent / "target/bin/explain" if HERE.name == "office" else HERE.parent.parent / "bin/explain"
 
 
 class Unexplained(Exception):
-    """Why there are no lines: explain is not found, does not run, or prints something else."""
+    """Why there are no lines: explain prints something else."""
 
 
 class Refused(Exception):
@@ -34,23 +29,12 @@ class Reason:
         self.watched, self.empty, self.behind, self.apart = watched, empty, behind, apart
 
 
-def program():
-    """The explain to run: the one that EXPLAIN names, the one beside this tool, or the first in PATH."""
-    found = os.environ.get("EXPLAIN") or (str(BESIDE) if BESIDE.is_file() else shutil.which("explain"))
-    if not found:
-        raise Unexplained("the program explain is not found: `rt check explain` makes it, or EXPLAIN names it")
-    return found
-
-
 def run(file):
-    """The lines that explain prints for the bytes of a farm file."""
-    name = program()
+    """The explain that is run, and the lines that it prints for the bytes of a farm file."""
+    name, printed = farm_programs.answer("explain", file)
     try:
-        done = subprocess.run([name], input=file, stdout=subprocess.PIPE, check=True)
-        return name, done.stdout.decode("ascii").splitlines()
-    except OSError as problem:
-        raise Unexplained(f"the program explain, {name}: {problem.strerror}") from None
-    except (subprocess.CalledProcessError, UnicodeDecodeError):
+        return name, printed.decode("ascii").splitlines()
+    except UnicodeDecodeError:
         raise Unexplained(f"{name} does not explain farm files") from None
 
 

@@ -8,10 +8,12 @@ import struct
 import sys
 from pathlib import Path
 
+import farm_camera
+
 FEWEST_PLANES, MOST_PLANES, RAYS, BLOCKS, BYTES = 6, 14, 4, 63, 65_536
 IDENTITY = [1.0, 0.0, 0.0, 0.0, 0.0, 1.0, 0.0, 0.0, 0.0, 0.0, 1.0, 0.0, 0.0, 0.0, 0.0, 1.0]
 # How many numbers follow each word of the view, and of a block.
-VIEW = {"plane": 4, "ray": 6}
+VIEW = {"camera": farm_camera.NUMBERS, "plane": 4, "ray": 6}
 BLOCK = {"range": 6, "matrix": 16, "flag": 1}
 
 
@@ -64,6 +66,11 @@ def items(text):
     return found
 
 
+def joined(planes, rays=()):
+    """The count of some planes, their numbers, and those of rays."""
+    return sum((item.numbers(VIEW[item.word]) for item in [*planes, *rays]), [float(len(planes))])
+
+
 class Section:
     """The view or a block: its items by their word, and the text of the gap in front of it."""
 
@@ -74,12 +81,32 @@ class Section:
         return self.volume() if self.name is None else self.block()
 
     def volume(self):
-        planes, rays = ([item.numbers(VIEW[word]) for item in self.items if item.word == word] for word in VIEW)
+        camera, planes, rays = ([item for item in self.items if item.word == word] for word in VIEW)
+        if camera:
+            return self.seen(camera, planes, rays)
         if not FEWEST_PLANES <= len(planes) <= MOST_PLANES:
             raise Wrong(self.line, f"a view has {FEWEST_PLANES} to {MOST_PLANES} planes, not {len(planes)}")
         if len(rays) != RAYS:
             raise Wrong(self.line, f"a view has {RAYS} rays, not {len(rays)}")
-        return sum(planes + rays, [float(len(planes))])
+        return joined(planes, rays)
+
+    def seen(self, camera, screens, rays):
+        """The view of a camera, and the screens that stand behind it."""
+        if len(camera) > 1:
+            raise Wrong(camera[1].line, "a view has one camera")
+        if self.items[0] is not camera[0]:
+            raise Wrong(camera[0].line, "the camera stands before the planes, which are screens then")
+        if rays:
+            raise Wrong(rays[0].line, "a view with a camera has its rays from the camera")
+        most = MOST_PLANES - FEWEST_PLANES
+        if len(screens) > most:
+            raise Wrong(screens[most].line, f"a camera has at most {most} screens")
+        try:
+            _, *numbers = farm_camera.volume(camera[0].numbers(VIEW["camera"]))
+        except farm_camera.Refused as why:
+            raise Wrong(camera[0].line, f"camera: {why}") from None
+        at = FEWEST_PLANES * VIEW["plane"]
+        return [float(FEWEST_PLANES + len(screens))] + numbers[:at] + joined(screens)[1:] + numbers[at:]
 
     def block(self):
         given = {}
