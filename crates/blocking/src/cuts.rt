@@ -29,7 +29,7 @@ fn cut_from(here: bool, there: bool, end: f64, at: f64) -> f64
 }
 
 // How far the planes passed cut from one end, the place of one that cuts so far, and how far the others cut.
-#[derive(Drop)]
+#[derive(Clone, Copy)]
 struct Cut {
     furthest: f64,
     place: u32,
@@ -78,7 +78,7 @@ impl Cut {
 }
 
 // At both ends. At the second it is told with the sign turned, so that further is larger at both.
-#[derive(Drop)]
+#[derive(Clone, Copy)]
 struct Cuts {
     start: Cut,
     end: Cut,

@@ -16,7 +16,7 @@ use projection::projection::{Projection, ProjectionParams, Recovered, kind_numbe
 
 // The transform is the inverse of the view, and so places the camera. Near and far count the world's unit. The other five numbers are
 // lengths in the camera and count tenths of that unit.
-#[derive(Drop)]
+#[derive(Clone, Copy)]
 pub struct Camera {
     pub transform: Mat4d,
     pub projection: Projection,
@@ -30,7 +30,7 @@ pub struct Camera {
 }
 
 // The camera of two matrices, or why there is none.
-#[derive(Drop)]
+#[derive(Clone, Copy)]
 pub enum Set {
     To(Camera),
     Refused(Refusal),

@@ -1,5 +1,7 @@
 // Reads a view and a projection matrix from standard input to its end, and writes the volume that they make: numbers in the form that a
 // farm file has them in; or prints that they are refused.
+#![tactic(auto)]
+
 use farm::text::front;
 use view_bytes::camera_view::camera_view;
 

@@ -1,4 +1,6 @@
 // The twelve marked verdicts of paper 01: each case's number and its verdict, as the operations answer.
+#![tactic(auto)]
+
 ghost use Rattle.std.specs.Prelude.{◌≡◌};
 ghost use Rattle.number.specs.Answer.{verdict_of};
 ghost use Rattle.verdict.specs.FrustumCalls.{intersects_point_call, intersects_segment_call, intersects_box_call};

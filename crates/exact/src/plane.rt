@@ -8,14 +8,14 @@ ghost use Rattle.exact.specs.Steps.{vec_of, vec, plane_of, gap_at, vertex_of, Si
 use crate::vec::Vec3i;
 
 // The points whose dot product with the normal is at least the distance.
-#[derive(Drop)]
+#[derive(Clone, Copy)]
 pub struct Plane {
     pub normal: Vec3i,
     pub distance: i64,
 }
 
 // Three numbers over k. A k of 0 says that there is no point.
-#[derive(Drop)]
+#[derive(Clone, Copy)]
 pub struct Point {
     pub numbers: Vec3i,
     pub k: i64,

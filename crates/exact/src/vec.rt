@@ -5,7 +5,7 @@ ghost use Rattle.whole.specs.Plane.{dotℤ};
 ghost use Rattle.exact.specs.Vertex.{minor, cross};
 ghost use Rattle.exact.specs.Steps.{vec_of, vec, Sized, Products};
 
-#[derive(Drop)]
+#[derive(Clone, Copy)]
 pub struct Vec3i {
     pub x: i64,
     pub y: i64,

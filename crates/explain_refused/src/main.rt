@@ -1,5 +1,7 @@
 // Reads a farm file from standard input to its end, and prints for each box its number, whether it is in view and why; or that the
 // file is refused.
+#![tactic(auto)]
+
 use farm::text::front;
 use number::limits::LARGEST_FILE;
 use reason::explain::explain;

@@ -14,7 +14,7 @@ const ENTRY_SIZE: usize = 2 * WORD_SIZE;
 // A slot for each box that a file can have.
 pub const SLOT_COUNT: usize = MOST_SECTIONS - 1;
 
-#[derive(Drop)]
+#[derive(Clone, Copy)]
 pub struct Section {
     pub offset: u32,
     pub size: u32,

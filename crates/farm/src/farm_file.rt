@@ -34,7 +34,7 @@ fn judge_by(file: &[u8], room: &mut [f64], out: &mut [u32]) -> Counted
 }
 
 // What a file comes to, and the numbers of its sections, one behind the other, in front of a room. Those of a refused file say nothing.
-#[derive(Drop)]
+#[derive(Clone, Copy)]
 pub struct Judgement {
     pub answer: Counted,
     pub numbers: [f64; NUMBERS_ROOM],

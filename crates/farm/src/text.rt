@@ -14,7 +14,7 @@ const LINE_ROOM: usize = 2 + 4 + 3 * MOST_PLANES as usize + 10 + 1;
 pub const TEXT_ROOM: usize = SLOT_COUNT * LINE_ROOM;
 
 // Lines: the first bytes, so many.
-#[derive(Drop)]
+#[derive(Clone, Copy)]
 pub struct Text {
     pub bytes: [u8; TEXT_ROOM],
     pub size: usize,

@@ -1,5 +1,7 @@
 // Reads a farm file from standard input to its end, and prints its lines: for each box its number and whether it is in view, or
 // that the file is refused.
+#![tactic(auto)]
+
 use farm::lines::lines;
 use farm::text::front;
 use number::limits::LARGEST_FILE;

@@ -1,4 +1,6 @@
 // The C functions of include/gf.h: each is the operation of the same name, with the number of its answer.
+#![tactic(auto)]
+
 pub mod bbox_calls;
 pub mod blocking_calls;
 pub mod camera_calls;

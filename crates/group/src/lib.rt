@@ -1,4 +1,6 @@
 // Several box records in one slice: combined into one box, or each asked of one view.
+#![tactic(auto)]
+
 pub mod batch;
 pub mod group;
 pub mod group_calls;

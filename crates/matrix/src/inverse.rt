@@ -12,7 +12,7 @@ use number::order::abs;
 pub const SINGULAR_DETERMINANT: f64 = 1e-12;
 
 // The inverse of a matrix, or that it has none.
-#[derive(Drop)]
+#[derive(Clone, Copy)]
 pub enum Inverted {
     Matrix(Mat4d),
     Singular,

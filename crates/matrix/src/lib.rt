@@ -1,4 +1,6 @@
 // Vectors, matrices and ranges: row vectors, and matrices held row by row.
+#![tactic(auto)]
+
 pub mod inverse;
 pub mod matrix;
 pub mod matrix_calls;

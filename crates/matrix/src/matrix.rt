@@ -10,7 +10,7 @@ use crate::vec::{Vec3d, Vec4d};
 use number::slice;
 use number::slice::at;
 
-#[derive(Drop)]
+#[derive(Clone, Copy)]
 pub struct Mat4d {
     pub r0: Vec4d,
     pub r1: Vec4d,

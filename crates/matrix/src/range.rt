@@ -13,7 +13,7 @@ use number::limits::CORNERS_LENGTH;
 use number::slice::at;
 use number::{order, slice};
 
-#[derive(Drop)]
+#[derive(Clone, Copy)]
 pub struct Range3d {
     pub min: Vec3d,
     pub max: Vec3d,

@@ -13,14 +13,14 @@ use number::{order, slice};
 // A shorter vector is normalized as if it had this length.
 pub const MIN_VECTOR_LENGTH: f64 = 1e-10;
 
-#[derive(Drop)]
+#[derive(Clone, Copy)]
 pub struct Vec3d {
     pub x: f64,
     pub y: f64,
     pub z: f64,
 }
 
-#[derive(Drop)]
+#[derive(Clone, Copy)]
 pub struct Vec4d {
     pub x: f64,
     pub y: f64,

@@ -50,7 +50,7 @@ fn range_at(ranges: &[f64], i: u32) -> Range3d
 }
 
 // What is found of the ranges passed: the place of the nearest and its squared distance, or no place.
-#[derive(Drop)]
+#[derive(Clone, Copy)]
 struct Nearest {
     place: u32,
     least: f64,

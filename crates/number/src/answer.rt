@@ -4,7 +4,7 @@ ghost use Rattle.number.specs.Answer.{number_of, status_of, scalar_of, verdict_o
 
 use crate::slots::UNUSED;
 
-#[derive(Drop)]
+#[derive(Clone, Copy)]
 pub enum Refusal {
     InputLength,
     OutputLength,
@@ -22,19 +22,19 @@ pub enum Refusal {
     InView,
 }
 
-#[derive(Drop)]
+#[derive(Clone, Copy)]
 pub enum Written {
     Done,
     Refused(Refusal),
 }
 
-#[derive(Drop)]
+#[derive(Clone, Copy)]
 pub enum Scalar {
     Value(f64),
     Refused(Refusal),
 }
 
-#[derive(Drop)]
+#[derive(Clone, Copy)]
 pub enum Verdict {
     Yes,
     No,
@@ -42,14 +42,14 @@ pub enum Verdict {
 }
 
 // How many there are, or a bit for each.
-#[derive(Drop)]
+#[derive(Clone, Copy)]
 pub enum Counted {
     Count(u32),
     Refused(Refusal),
 }
 
 // A place, counted from 0, or that there is none.
-#[derive(Drop)]
+#[derive(Clone, Copy)]
 pub enum Place {
     At(u32),
     Nowhere,

@@ -9,7 +9,7 @@ use crate::slice::{at, store};
 use crate::{nearest, normalised};
 
 // A whole coordinate on the grid, or that it is off it.
-#[derive(Drop)]
+#[derive(Clone, Copy)]
 pub enum Coordinate {
     On(i32),
     Off,

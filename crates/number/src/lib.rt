@@ -1,4 +1,6 @@
 // Numbers by their bits, the survey grid, and the answers and refusals of the whole engine.
+#![tactic(auto)]
+
 ghost use Rattle.std.specs.Prelude.{◌≡◌, ◌^◌, ◌<◌, ◌≤◌};
 ghost use Rattle.std.specs.Float.Ieee.Nearest.{closest};
 ghost use Rattle.number.specs.Steps.Magnitude.{Normalised};
@@ -14,7 +16,7 @@ pub mod slice;
 pub mod slots;
 
 // A magnitude taken apart: significand * 2 ^ (scale - 52) smallest values.
-#[derive(Drop)]
+#[derive(Clone, Copy)]
 struct Scaled {
     significand: u64,
     scale: u64,

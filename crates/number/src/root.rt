@@ -19,7 +19,7 @@ fn either(first: bool, a: u64, b: u64) -> u64
 }
 
 // A search for a root between two bits. With r the root so far and b the bit just tried, trial is 4 * r + b, and left is four times the remainder.
-#[derive(Drop)]
+#[derive(Clone, Copy)]
 struct PartialRoot {
     trial: u64,
     left: u64,
@@ -57,7 +57,7 @@ impl PartialRoot {
 }
 
 // The whole part of a root, and 1 where something is left of the number searched.
-#[derive(Drop)]
+#[derive(Clone, Copy)]
 struct WholeRoot {
     root: u64,
     rest: u64,

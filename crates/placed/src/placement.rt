@@ -10,7 +10,7 @@ ghost use Rattle.placed.specs.Steps.{vec_of, vec, Sized, placed_bounds, BoxNumbe
 use whole::view::on_grid;
 
 // Three numbers, by axis.
-#[derive(Drop)]
+#[derive(Clone, Copy)]
 pub struct Vec3i {
     pub x: i32,
     pub y: i32,

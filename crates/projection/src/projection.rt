@@ -14,14 +14,14 @@ use number::slice::at;
 // Two numbers of a matrix are close where they differ by no more than this part of the larger size, or of 1 if neither is larger.
 pub const TOLERANCE: f64 = 1e-6;
 
-#[derive(Drop)]
+#[derive(Clone, Copy)]
 pub enum Projection {
     Perspective,
     Orthographic,
 }
 
 // The edges of a window, which in perspective is 1 away from the eye, and how far away the volume begins and ends.
-#[derive(Drop)]
+#[derive(Clone, Copy)]
 pub struct ProjectionParams {
     pub projection: Projection,
     pub left: f64,
@@ -33,14 +33,14 @@ pub struct ProjectionParams {
 }
 
 // The numbers of a record, or that the first of them names no kind of projection.
-#[derive(Drop)]
+#[derive(Clone, Copy)]
 pub enum Loaded {
     Params(ProjectionParams),
     UnknownKind,
 }
 
 // The volume that is recovered from a matrix, or that it is no projection.
-#[derive(Drop)]
+#[derive(Clone, Copy)]
 pub enum Recovered {
     Params(ProjectionParams),
     NotAProjection,

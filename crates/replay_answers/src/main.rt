@@ -1,5 +1,7 @@
 // Replays answers recorded from Rust. For each operation the program writes how many of its records the crates below agree with, and how
 // many it read.
+#![tactic(auto)]
+
 mod calls;
 mod matrix_operations;
 mod number_operations;

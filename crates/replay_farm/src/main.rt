@@ -1,5 +1,7 @@
 // Replays recorded farm files, one behind the other on standard input: 32 bits that say how many bytes a file has, the low byte
 // first, and its bytes. For each the program prints its place, its lines and its explained lines.
+#![tactic(auto)]
+
 use farm::lines::lines;
 use farm::text::front;
 use number::bytes::word_32;

@@ -13,7 +13,7 @@ use number::slice::at;
 use number::{order, slice};
 
 // A range, the matrix that places it, and the zero-area flag.
-#[derive(Drop)]
+#[derive(Clone, Copy)]
 pub struct BBox3d {
     pub range: Range3d,
     pub matrix: Mat4d,
@@ -21,7 +21,7 @@ pub struct BBox3d {
 }
 
 // The inverse of a box's matrix, with a flag that says whether there is one. Without one the matrix is the identity.
-#[derive(Drop)]
+#[derive(Clone, Copy)]
 pub struct Inverse {
     pub matrix: Mat4d,
     pub exists: bool,

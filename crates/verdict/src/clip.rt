@@ -9,7 +9,7 @@ use matrix::range::Range3d;
 use matrix::vec::Vec4d;
 
 // The sides of clip space that some corner is within.
-#[derive(Drop)]
+#[derive(Clone, Copy)]
 struct Sides {
     right: bool,
     left: bool,

@@ -30,7 +30,7 @@ pub(crate) fn sides(view: &[f64], count: u32, p: Vec3d) -> u64
 }
 
 // The same for both ends of a segment.
-#[derive(Drop)]
+#[derive(Clone, Copy)]
 pub(crate) struct EndSides {
     pub a: u64,
     pub b: u64,

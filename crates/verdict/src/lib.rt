@@ -1,4 +1,6 @@
 // Planes, rays, boxes and views.
+#![tactic(auto)]
+
 pub mod bbox;
 pub mod bbox_calls;
 pub mod clip;

@@ -48,7 +48,7 @@ pub fn crossing(plane: Plane, a: Vec3d, b: Vec3d) -> f64
 }
 
 // What the planes passed leave of a segment from a to b: from a start to an end that are 0 at a and 1 at b.
-#[derive(Drop)]
+#[derive(Clone, Copy)]
 struct Span {
     start: f64,
     end: f64,

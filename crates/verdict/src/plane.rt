@@ -11,14 +11,14 @@ use number::slice;
 use number::slice::at;
 
 // On its positive side a point has a dot product with the normal of at least the distance.
-#[derive(Drop)]
+#[derive(Clone, Copy)]
 pub struct Plane {
     pub normal: Vec3d,
     pub distance: f64,
 }
 
 // A plane moved by a matrix, or that the matrix is singular.
-#[derive(Drop)]
+#[derive(Clone, Copy)]
 pub enum Transformed {
     To(Plane),
     Singular,

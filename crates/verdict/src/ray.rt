@@ -14,14 +14,14 @@ use number::slice;
 use number::slice::at;
 
 // Distances along it count directions, which may be of any length.
-#[derive(Drop)]
+#[derive(Clone, Copy)]
 pub struct Ray {
     pub start: Vec3d,
     pub direction: Vec3d,
 }
 
 // A ray's hit on a plane: the distance, and whether on the front, which is the positive side. Or a miss.
-#[derive(Drop)]
+#[derive(Clone, Copy)]
 pub enum PlaneHit {
     At { distance: f64, front: bool },
     Miss,
@@ -29,7 +29,7 @@ pub enum PlaneHit {
 
 // A ray's hit on a triangle: the distance, the weights of the first, second and third point, and whether on the front, from which
 // the points go round against the clock. Or why there is none.
-#[derive(Drop)]
+#[derive(Clone, Copy)]
 pub enum TriangleHit {
     Hit {
         distance: f64,
@@ -43,7 +43,7 @@ pub enum TriangleHit {
 
 // The numbers of a ray that meets a triangle's plane, and whether they are those of a hit; zeros where it misses the plane. What would be a branch is a number here,
 // so that the numbers of several rays are on their way at a time.
-#[derive(Drop)]
+#[derive(Clone, Copy)]
 pub struct Meeting {
     pub distance: f64,
     pub gamma: f64,
@@ -54,7 +54,7 @@ pub struct Meeting {
 }
 
 // The axis along which a normal is longest.
-#[derive(Drop)]
+#[derive(Clone, Copy)]
 enum Axis {
     X,
     Y,
@@ -62,7 +62,7 @@ enum Axis {
 }
 
 // What is left of a vector that is projected along an axis.
-#[derive(Drop)]
+#[derive(Clone, Copy)]
 struct Flat {
     u: f64,
     v: f64,
@@ -70,7 +70,7 @@ struct Flat {
 
 // What the hits of a triangle share, so that many rays have it from one: its plane, its first point, the axis that the plane faces, and the second
 // and the third point from the first, projected along it.
-#[derive(Drop)]
+#[derive(Clone, Copy)]
 pub struct Triangle {
     plane: Plane,
     first: Vec3d,

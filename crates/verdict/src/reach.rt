@@ -35,7 +35,7 @@ pub(crate) fn extent(range: Range3d) -> f64
 }
 
 // An estimate whose sign tells the side, a bound on its error, and whether that holds.
-#[derive(Drop)]
+#[derive(Clone, Copy)]
 struct Filtered {
     estimate: f64,
     error: f64,

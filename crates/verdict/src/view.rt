@@ -22,7 +22,7 @@ pub(crate) const NEAR_PLANE: u32 = 4;
 pub(crate) const RAY_COUNT: u32 = 4;
 
 // How many planes there are, or why that cannot be said.
-#[derive(Drop)]
+#[derive(Clone, Copy)]
 pub enum Held {
     Planes(u32),
     Refused(Refusal),

@@ -1,2 +1,4 @@
 // The volume of two matrices, from bytes to bytes.
+#![tactic(auto)]
+
 pub mod camera_view;

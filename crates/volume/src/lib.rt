@@ -1,2 +1,4 @@
 // The volume of a view and a projection matrix.
+#![tactic(auto)]
+
 pub mod volume;

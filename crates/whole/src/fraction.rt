@@ -4,7 +4,7 @@ ghost use Rattle.std.specs.Int.Signed.{non_neg};
 ghost use Rattle.whole.specs.Segment.{less, crossing_at};
 ghost use Rattle.whole.specs.Steps.{gap_limit, Small, Ends, SmallSpan, CutBy};
 
-#[derive(Drop)]
+#[derive(Clone, Copy)]
 pub struct Fraction {
     pub top: u64,
     pub bottom: u64,
@@ -52,7 +52,7 @@ impl Fraction {
 }
 
 // What planes leave of a segment: from where it has come in to where it goes out.
-#[derive(Drop)]
+#[derive(Clone, Copy)]
 pub struct Span {
     pub start: Fraction,
     pub end: Fraction,
