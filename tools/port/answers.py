@@ -210,8 +210,7 @@ def convert(crate, function, data):
             if said and said[2].strip() in TRIVIAL:
                 continue
             if number is None or not said:
-                looks.append(f"{where}: goal {found[2]} is not known")
-                answers.append("-- LOOK\n" + text)
+                looks.append(f"{where}: goal {found[2]} is not known and left out")
                 continue
             new = walk.needs[number][1]
             place = walk.index[walk.asked_at[number]]
@@ -238,37 +237,74 @@ def convert(crate, function, data):
     source.unlink()
     top = "\n".join(comments)
 
-    # a helper goes where it is used; one that both need goes to the answers, and the invariants import it from a file of their own
-    def write(name, parts, goal, more):
+    # a helper goes where it is used; what the invariants need is there, and the answers import it
+    def write(name, parts, goal, more, imported=()):
         if parts:
-            use = "\n".join([*uses, f"use {module}.{goal} as goal"])
-            text = "\n\n".join([*(([top + "\n" + use]) if top else [use]), *more, *parts]) + "\n"
+            lines = [*uses, *([f"use {module}.Invariants.{{{', '.join(imported)}}}"] if imported else []), f"use {module}.{goal} as goal"]
+            use = "\n".join(lines)
+            text = "\n\n".join([top + "\n" + use if top else use, *more, *parts]) + "\n"
             (folder / name).write_text(text)
 
-    said = "\n".join(invariants)
+    named = {number: names_of(helper) for number, helper in enumerate(helpers)}
+    for_loops = reached(named, helpers, "\n".join(invariants))
+    for_answers = reached(named, helpers, "\n".join(answers)) - for_loops
+    used = "\n".join([*answers, *(helpers[k] for k in for_answers)])
+    imported = [name for k in sorted(for_loops) for name in named[k] if mentions(used, name)]
+    write("Invariants.antt", invariants, "Given", [opened(helpers[k]) for k in sorted(for_loops)])
+    write("Answers.antt", answers, "Goals", [helpers[k] for k in sorted(for_answers)], imported)
+    if len(for_loops | for_answers) < len(helpers):
+        looks.append(f"{where}: {len(helpers) - len(for_loops | for_answers)} helpers are left out")
+
+
+def mentions(text, name):
+    return re.search(r"(?<![\w.\-'])" + re.escape(name) + r"(?![\w\-'])", text)
+
+
+def names_of(helper):
+    lines = [line for line in helper.split("\n") if not line.strip().startswith("--")]
+    if lines and lines[0].startswith("module _"):
+        body = "\n".join(lines)
+        # a section in a section too
+        names = re.findall(r"^(?:  )+(?:abbrev |unfoldable )?(?:pub )?(?:record |data )?(\S+) (?:\(.*\) )?: ", body, re.M)
+        return list(dict.fromkeys(names))
+    found = re.match(r"(?:abbrev |unfoldable )?(?:pub )?(?:record |data )?(\S+)", lines[0]) if lines else None
+    names = [found[1]] if found else []
+    if lines and re.match(r"(pub )?data ", lines[0]):
+        names += re.findall(r"^  (\S+) : ", helper, re.M)
+    if lines and lines[0].startswith("open "):
+        names = re.findall(r"[\w\-']+", lines[0].partition("{")[2])
+    return names
+
+
+def reached(named, helpers, text):
     need, grew = set(), True
-    named = {}
-    for number, helper in enumerate(helpers):
-        lines = [l for l in helper.split("\n") if not l.startswith("--")]
-        m = re.match(r"(?:abbrev |unfoldable )?(?:pub )?(?:record |data )?(\S+)", lines[0]) if lines else None
-        names = {m[1]} if m else set()
-        if lines and lines[0].startswith("module _"):
-            names = set(re.findall(r"^  (?:abbrev |unfoldable )?(?:pub )?(?:record )?(\S+) ", helper, re.M))
-        named[number] = names
-    text = said
     while grew:
         grew = False
         for number, names in named.items():
-            if number not in need and any(re.search(r"(?<![\w.\-'])" + re.escape(name) + r"(?![\w\-'])", text) for name in names):
+            if number not in need and any(mentions(text, name) for name in names):
                 need.add(number)
                 text += "\n" + helpers[number]
                 grew = True
-    shared = [helpers[k] for k in sorted(need)]
-    write("Invariants.antt", invariants, "Given", shared)
-    rest = helpers
-    write("Answers.antt", answers, "Goals", rest)
-    if not invariants and not answers and helpers:
-        looks.append(f"{where}: {len(helpers)} helpers have no use")
+    return need
+
+
+def opened(helper):
+    """A helper whose names other files may have."""
+    lines, in_record = [], None
+    margin = "  " if helper.lstrip().startswith("module _") or "\nmodule _" in helper else ""
+    for line in helper.split("\n"):
+        indent = len(line) - len(line.lstrip())
+        if in_record is not None and line.strip() and indent <= in_record:
+            in_record = None
+        if re.match(r"\s*(pub )?record .* where", line):
+            in_record = indent
+        elif in_record is not None and indent == in_record + 2 and " : " in line and not line.lstrip().startswith(("pub ", "--")):
+            line = " " * indent + "pub " + line.lstrip()
+        found = re.match(r"((?:  )*)((?:abbrev |unfoldable )?)((?:record |data )?)(\S+ (?:\(.*\) )?: .*|\S+ :)\Z", line)
+        if found and " pub " not in line and not line.lstrip().startswith(("pub ", "--", "module ")) and (found[1] == margin or margin and len(found[1]) <= 4 and not found[4].startswith("→")):
+            line = f"{found[1]}{found[2]}pub {found[3]}{found[4]}"
+        lines.append(line)
+    return "\n".join(lines)
 
 
 def main():

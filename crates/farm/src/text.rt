@@ -30,7 +30,9 @@ pub fn put(text: &mut [u8], at: usize, bytes: &[u8]) -> usize
     if text.len() - at < bytes.len() {
         return at;
     }
-    at + bytes::copy(bytes, &mut text[at..])
+    let end = at + bytes.len();
+    text[at..end].copy_from_slice(bytes);
+    end
 }
 
 // The digits of a number below 100.

@@ -1,0 +1,23 @@
+-- `lines::put_lines` meets its contract: the lines of the boxes passed are in front. Assumes nothing.
+-- the lines of the first i slots
+use mathlib.Core.Path.{◌≡◌, refl, sym, ap, ◌∙◌}
+use mathlib.Core.List.{List, [], ◌∷◌, ◌++◌, map, map-append}
+use Prim.Native.Nat.{ℕ, ◌+◌, ◌-◌, ◌*◌, ◌<◌, ◌≤◌}
+use native.Mathlib.Numerals.{add-one}
+use native.Mathlib.Omega.{arith}
+use lib.ListN.{length, length-map, take, get_or}
+use lib.Seq.{take-suc, length-take-le}
+use Rattle.farm.specs.Text.{lines_from}
+use Rattle.farm.specs.Lines.{line}
+use Rattle.farm.specs.Steps.{Put, is_yes, line_room}
+use Rattle.farm.proofs.Texts.{put_then, put_meant, put_length, lines_more, short_line, short_lines}
+use Rattle.farm.proofs.lines.put_lines.Given as goal
+
+abbrev pub lines : List ℕ → ℕ → List ℕ
+lines s i = lines_from line 1 (map is_yes (take i s))
+
+abbrev pub invariant-loop-i : goal.invariant-loop-i
+invariant-loop-i l = (l.i ≤ l.count) × Put l.initial.text 0 (lines l.slots l.i) l.at l.text × (length l.text ≡ length l.initial.text)
+
+abbrev pub decreases-loop-i : goal.decreases-loop-i
+decreases-loop-i l = l.count - l.i

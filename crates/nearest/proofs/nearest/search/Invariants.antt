@@ -1,0 +1,14 @@
+-- `nearest::search` meets its contract: what is known of the place found is kept from range to range. Assumes nothing.
+use mathlib.Core.Path.{refl, sym, ap, ◌∙◌, subst}
+use Prim.Native.Nat.{ℕ, ◌+◌, ◌-◌, ◌≤◌}
+use native.Mathlib.Omega.{arith}
+use Rattle.matrix.specs.declared.range.Range3d.{Range3d}
+use Rattle.nearest.specs.Steps.{with_range}
+use Rattle.nearest.proofs.Steps.{Held, at_first, next, at_last}
+use Rattle.nearest.proofs.nearest.search.Given as goal
+
+abbrev pub invariant-loop-i : goal.invariant-loop-i
+invariant-loop-i l = (l.i ≤ l.count) × Held l.ranges l.p l.i l.found
+
+abbrev pub decreases-loop-i : goal.decreases-loop-i
+decreases-loop-i l = l.count - l.i

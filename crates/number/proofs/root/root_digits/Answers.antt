@@ -1,0 +1,109 @@
+-- `number::root::root_digits` meets its contract: the laws of `proofs/RootBits.antt`, at what the search found, or beside a power of 4.
+-- There the significand is 2 ^ 52 + k, and the whole root of the number searched 2 ^ 53 + k - 1, or it is 2 ^ 53 - k, and the whole root 2 ^ 54 - k - 1: the
+-- square of what follows it is beyond the number searched by the square of k. Something is left, except where k is 0, and a half stands for it. Assumes nothing.
+-- the rounded digits of the root of the number N searched
+use Rattle.std.proofs.Common.{◌≡◌, ℕ, zero, suc, ◌+◌, ◌-◌, ◌*◌, ◌/◌, ◌%◌, ◌^◌, ◌<◌, ◌≤◌, ltb, sym, ap, ◌∙◌, subst, le_of_lt, mul-le-mul, mul-pos, arith, rules, ltb-true}
+use lib.Ieee.Nearest.{closest}
+use Rattle.number.specs.Root.{root_of, rest_of}
+use Rattle.number.proofs.Rounding.{nearest_shift}
+use Rattle.number.proofs.RootBits.{shifted, shifted_ge, shifted_lt, halved, small}
+use Rattle.number.proofs.RootRounding.{rest_none, rest_some}
+use Rattle.number.proofs.Search.{found_root, found_rest}
+use Rattle.number.proofs.Tests.{both_hold}
+use Rattle.number.proofs.WholeRoot.{root_unique}
+use Rattle.number.proofs.root.root_digits.Goals as goal
+
+abbrev digits : ℕ → ℕ
+digits N = closest (2 * root_of N + rest_of (root_of N) N) 4
+
+-- by the whole root and the rest, where they are known
+at_root : (N r i : ℕ) → root_of N ≡ r → rest_of r N ≡ i → closest (2 * r + i) 4 ≡ digits N
+at_root N r i e f = ap (λ (j : ℕ). closest (2 * r + j) 4) (sym f) ∙ ap (λ (j : ℕ). closest (2 * j + rest_of j N) 4) (sym e)
+
+-- a whole root with something left
+between : (N r : ℕ) → r * r < N → N < suc r * suc r → suc r / 2 ≡ digits N
+between N r l g = half ∙ at_root N r 1 (root_unique N r (le_of_lt l) g) (rest_some r N l)
+  where
+    half : suc r / 2 ≡ closest (2 * r + 1) 4
+    half = sym (sym (nearest_shift (2 * r + 1) 2 (omega arith)) ∙ omega arith)
+
+-- ---- to both sides of a power of 4
+-- the square that the bound keeps small
+square_most : (k : ℕ) → k ≤ 2 ^ 26 → k * k ≤ 2 ^ 52
+square_most k h = mul-le-mul {n₁ = k} {m₁ = k} {n₂ = 2 ^ 26} {m₂ = 2 ^ 26} h h
+
+-- from it on
+above : (m k : ℕ) → m ≡ 2 ^ 52 + k → k < 2 ^ 26 → (2 ^ 52 + m) / 2 ≡ digits (m * 2 * 2 ^ 53)
+above m zero e h =
+    let same : (2 ^ 52 + m) / 2 ≡ 2 ^ 52 = omega arith in
+    same ∙ at_root (m * 2 * 2 ^ 53) (2 ^ 53) 0 (root_unique (m * 2 * 2 ^ 53) (2 ^ 53) (omega arith) (omega arith)) (rest_none (2 ^ 53) (m * 2 * 2 ^ 53) (omega arith))
+above m (suc k) e h =
+    let s = square_most k (omega arith) in
+    ap (λ (i : ℕ). i / 2) {x = 2 ^ 52 + m} {y = suc (2 ^ 53 + k)} (omega arith) ∙ between (m * 2 * 2 ^ 53) (2 ^ 53 + k) (omega arith) (omega arith)
+
+-- below it
+below : (m k r : ℕ) → m + k ≡ 2 ^ 53 → 0 < k → k < 2 ^ 26 → r + suc k ≡ 2 ^ 54 → (2 ^ 53 + m) / 2 ≡ digits (m * 4 * 2 ^ 53)
+below m k r e K h f =
+    let s = square_most (suc k) h in
+    let z = mul-pos K K in
+    let x = squared r (suc k) f in
+    let y = squared (suc r) k (omega arith) in
+    ap (λ (i : ℕ). i / 2) {x = 2 ^ 53 + m} {y = suc r} (omega arith) ∙ between (m * 4 * 2 ^ 53) r (omega arith) (omega arith)
+  where
+    -- (2 ^ 54 - s)²
+    squared : (r s : ℕ) → r + s ≡ 2 ^ 54 → r * r + 2 ^ 55 * s ≡ 2 ^ 108 + s * s
+    squared r s f = let x = ap (λ (i : ℕ). i * i) f in let y = ap (λ (i : ℕ). i * s) f in omega arith
+
+-- that power's significand: an odd scale has it above those of 53 digits
+abbrev power : ℕ → ℕ
+power o = 2 ^ 52 * 2 ^ o % 2 ^ 64
+
+beside : (m o : ℕ) → 2 ^ 52 ≤ m → m < 2 ^ 53 → o < 2 → power o < m + 2 ^ 26 → m < power o + 2 ^ 26 → (power o + m) / 2 ≡ digits (m * 2 ^ (1 + o) * 2 ^ 53)
+beside m zero lo hi h l g = above m (m - 2 ^ 52) (omega arith) (omega arith)
+beside m (suc zero) lo hi h l g = below m (2 ^ 53 - m) (2 ^ 53 + m - 1) (omega arith) (omega arith) (omega arith) (omega arith)
+beside m (suc (suc o)) lo hi h l g = absurd (omega arith)
+
+-- what the test says
+tested : (c : tie.Then1) → let m = c.before.args.significand in
+    let u = power (c.before.args.scale % 2) in
+    (u < m + 2 ^ 26) × (m < u + 2 ^ 26)
+tested c =
+    let m = c.before.args.significand in
+    let u = power (c.before.args.scale % 2) in
+    let t = both_hold (ltb u (m + 2 ^ 26)) (ltb m (u + 2 ^ 26)) c.if1.true in
+    (ltb-true u (m + 2 ^ 26) t.0, ltb-true m (u + 2 ^ 26) t.1)
+
+-- what is found, with the half that stands for the rest
+found : (c : tie.After-search) → let a = c.before.before.args in
+    let n = a.significand * 2 ^ (1 + a.scale % 2) * 2 ^ 53 in
+    2 * c.search.result.root + c.search.result.rest ≡ 2 * root_of n + rest_of (root_of n) n
+found c =
+    let a = c.before.before.args in
+    let p = c.before.before.requires in
+    halved a.significand a.scale p.0 p.1 c.search.result.root c.search.result.rest (found_root _ _ c.search.ensures, found_rest _ _ c.search.ensures)
+
+found_lt : (c : tie.After-search) → 2 * c.search.result.root + c.search.result.rest < 2 ^ 55
+found_lt c =
+    let a = c.before.before.args in
+    let p = c.before.before.requires in
+    subst (λ (i : ℕ). i < 2 ^ 55) (sym (found c)) (small a.significand a.scale p.0 p.1)
+
+pub returns-then-square-significand : goal.returns-then-square-significand
+returns-then-square-significand c =
+    let a = c.args in
+    let p = c.requires in
+    beside a.significand (a.scale % 2) p.0 p.1 (omega arith) (tested LOOK-PLACE c).0 (tested LOOK-PLACE c).1
+
+-- ---- by the search
+pub search-found-requires : goal.search-found-requires
+search-found-requires c =
+    let a = c.args in
+    let p = c.requires in
+    subst (λ (i : ℕ). (2 ^ 53 ≤ i) × (i < 2 ^ 55)) (sym (shifted a.significand a.scale p.0 p.1))
+    (shifted_ge a.significand a.scale p.0 p.1, shifted_lt a.significand a.scale p.0 p.1)
+
+pub nearest-requires : goal.nearest-requires
+nearest-requires c = (omega arith, omega arith, omega (arith, found_lt LOOK-PLACE c.before.before))
+
+pub returns : goal.returns
+returns c = c.nearest.ensures ∙ ap (λ (i : ℕ). closest i 4) (found LOOK-PLACE c.before.before.before)

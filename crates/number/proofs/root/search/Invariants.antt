@@ -1,0 +1,18 @@
+-- `number::root::search` meets its contract: `AfterBit` of `specs/Search.antt` holds of the loop's variables after the first bit and after each that is tried, by
+-- the contracts of `first` and `tried`. Assumes nothing.
+-- the loop's variables after a bit
+use Rattle.std.proofs.Common.{◌≡◌, ℕ, ◌*◌, ◌^◌, ◌<◌, ◌≤◌, ap, ◌∙◌, arith, lit≤, pow_pos, rules}
+use Rattle.number.specs.Search.{AfterBit}
+use Rattle.number.proofs.Search.{exact, inexact, root_below}
+use Rattle.number.proofs.root.search.Given as goal
+
+pub record At (n bit trial left : ℕ) : Type 0 where
+  pub after : AfterBit n bit (record { trial = trial; left = left })
+  pub bits : bit ≤ 2 ^ 53
+  pub small : n < 2 ^ 54 * 2 ^ 54
+
+abbrev pub invariant-loop-bit : goal.invariant-loop-bit
+invariant-loop-bit l = At (l.number * 2 ^ 53) l.bit l.trial l.left
+
+abbrev pub decreases-loop-bit : goal.decreases-loop-bit
+decreases-loop-bit l = l.bit

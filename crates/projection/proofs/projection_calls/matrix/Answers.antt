@@ -1,0 +1,31 @@
+-- `projection_calls::matrix` meets its contract: the lengths by its tests, the result by what it calls. Assumes nothing.
+use mathlib.Core.Path.{refl, sym, ap, ◌∙◌}
+use borrow.Author.Rules.{rules}
+use borrow.Author.Tests.{eq-eqb, ne_eqb}
+use Rattle.number.specs.Answer.{write}
+use Rattle.matrix.specs.declared.matrix.Mat4d.{Mat4d}
+use Rattle.matrix.specs.Matrix.{entries}
+use Rattle.projection.specs.Projection.{built_numbers}
+use Rattle.projection.specs.ProjectionCalls.{projection_call}
+use Rattle.number.proofs.Ways.{no_input, no_room, left, written, same_reply}
+use Rattle.projection.proofs.projection_calls.matrix.Goals as goal
+
+pub returns-then-params-ne-PROJECTION_LENGTH : goal.returns-then-params-ne-PROJECTION_LENGTH
+unfolding projection_call
+returns-then-params-ne-PROJECTION_LENGTH c = no_input _ _ _ _ (ne_eqb _ _ c.if-params-ne-PROJECTION_LENGTH.true)
+
+pub returns-then-out-ne-MATRIX_LENGTH : goal.returns-then-out-ne-MATRIX_LENGTH
+unfolding projection_call
+returns-then-out-ne-MATRIX_LENGTH c = no_room _ _ _ _ (eq-eqb _ _ c.if-params-ne-PROJECTION_LENGTH.false) c.if-out-ne-MATRIX_LENGTH.true
+
+pub returns-in_default : goal.returns-in_default
+unfolding projection_call
+returns-in_default c =
+    same_reply built_numbers _ (sym c.in_default.is ∙ c.load.ensures) ∙ left _ 16 _ _ (eq-eqb _ _ c.if-params-ne-PROJECTION_LENGTH.false)
+    c.if-out-ne-MATRIX_LENGTH.false
+
+pub returns : goal.returns
+unfolding projection_call
+returns c =
+    written _ 16 _ _ _ _ (eq-eqb _ _ c.if-params-ne-PROJECTION_LENGTH.false) c.if-out-ne-MATRIX_LENGTH.false refl c.store.ensures
+    (ap (λ (m : Mat4d). write (entries m)) c.matrix.ensures ∙ same_reply built_numbers _ (sym c.in-Params.is ∙ c.load.ensures))

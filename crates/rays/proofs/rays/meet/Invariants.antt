@@ -1,0 +1,26 @@
+-- `rays::meet` meets its contract: what is filled in front and the rays left decide. Assumes nothing.
+use mathlib.Core.Path.{◌≡◌, refl, sym, ap, ◌∙◌}
+use mathlib.Core.List.{List, map, map-map}
+use Prim.Native.Nat.{◌+◌, ◌-◌, ◌*◌, ◌≤◌}
+use native.Mathlib.Omega.{arith}
+use borrow.Author.Rules.{rules}
+use lib.ListN.{length, length-set, set}
+use lib.Ieee.{Float}
+use Rattle.number.specs.Limits.{ray_length, hit_length}
+use Rattle.number.specs.Records.{records}
+use Rattle.verdict.specs.declared.ray.Ray.{Ray}
+use Rattle.verdict.specs.declared.ray.Triangle.{Triangle}
+use Rattle.verdict.specs.Ray.{meeting_of, hit_in, hit_of}
+use Rattle.rays.specs.Rays.{landed, hit_numbers}
+use Rattle.rays.specs.Steps.{hit_on, hits_on}
+use Rattle.rays.proofs.Passed.{all_slots, all_numbers_lem, slot_passed, number_passed, stored_length, slots_passed, numbers_passed}
+use Rattle.rays.proofs.rays.meet.Given as goal
+
+abbrev pub invariant-loop-i : goal.invariant-loop-i
+invariant-loop-i l =
+    (l.i ≤ length l.status) × (length l.status ≡ length l.initial.status) × (length l.out ≡ length l.initial.out)
+    × (all_numbers_lem (hit_on l.triangle) (length l.initial.status) l.s l.status l.out l.i ≡ hit_numbers (hits_on l.triangle (records ray_length (length l.initial.status) l.s)))
+    × (all_slots (hit_on l.triangle) (length l.initial.status) l.s l.status l.i ≡ map (λ r. (landed (hit_on l.triangle r)).status) (records ray_length (length l.initial.status) l.s))
+
+abbrev pub decreases-loop-i : goal.decreases-loop-i
+decreases-loop-i l = length l.initial.status - l.i

@@ -1,0 +1,20 @@
+-- `put_verdict` meets its contract by what it calls. Assumes nothing.
+use mathlib.Core.Path.{sym, ap}
+use mathlib.Core.Bool.{true, false}
+use native.Mathlib.Omega.{arith}
+use borrow.Author.Rules.{rules}
+use Rattle.farm.proofs.Texts.{put_meant, has_room_lem}
+use Rattle.reason.specs.Lines.{verdict_word}
+use Rattle.reason.proofs.explain.put_verdict.Goals as goal
+
+pub returns-then-yes : goal.returns-then-yes
+returns-then-yes c =
+    let t = LOOK start.args.text.now in
+    put_meant t LOOK start.args.at (verdict_word true) _ _ (has_room_lem t LOOK start.args.at (verdict_word true) _ _ (omega (arith, LOOK start.requires)) c.put.ensures) _
+    (sym (ap verdict_word LOOK tested.if1.true))
+
+pub returns : goal.returns
+returns c =
+    let t = LOOK start.args.text.now in
+    put_meant t LOOK start.args.at (verdict_word false) _ _ (has_room_lem t LOOK start.args.at (verdict_word false) _ _ (omega (arith, LOOK start.requires)) c.put-2.ensures) _
+    (sym (ap verdict_word LOOK tested.if1.false))

@@ -1,0 +1,10 @@
+-- `main` is safe and ends: the place rises, and stays below 2 ^ 64. Assumes nothing.
+use Prim.Native.Nat.{◌-◌}
+use native.Mathlib.Omega.{arith}
+use Rattle.replay_farm.proofs.main.Given as goal
+
+abbrev pub invariant-loop-place : goal.invariant-loop-place
+invariant-loop-place l = Unit {0}
+
+abbrev pub decreases-loop-place : goal.decreases-loop-place
+decreases-loop-place l = 0xffff_ffff_ffff_ffff - l.place

@@ -1,0 +1,33 @@
+-- `sides_within` meets its contract: the bits are those of the planes passed. Assumes nothing.
+-- the planes from place i on, told from behind
+use Rattle.std.proofs.Common.{◌≡◌, ℕ, ◌+◌, ◌<◌, ◌≤◌, false, ◌∷◌, drop, sym, ap, ◌∙◌, arith, rules}
+use Rattle.number.specs.Tabulate.{tabulate}
+use Rattle.number.proofs.Tabulate.{next, left_count, none as no_plane}
+use Rattle.verdict.specs.Rows.{plane_in_rows, planes_in_rows}
+use Rattle.verdict.specs.Steps.Passes.{sides_of}
+use Rattle.verdict.proofs.Sides.{room, sides_next, no_sides}
+use Rattle.verdict.proofs.passes.sides_within.Goals as goal
+
+plane_before : {A : Type 0} (f : ℕ → A) (n i k : ℕ) (x : A) → i < n → k ≡ i + 1 → x ≡ f i → drop i (tabulate f n) ≡ x ∷ drop k (tabulate f n)
+plane_before f n i k x h l e = next f n i x h e ∙ ap (λ (j : ℕ). x ∷ drop j (tabulate f n)) (sym l)
+
+pub loop-i-init : goal.loop-i-init
+loop-i-init c = let a = c.args in (omega arith, no_sides _ a.p (no_plane (plane_in_rows a.rows.now) a.count a.count (omega arith)))
+
+pub loop-i-preserved : goal.loop-i-preserved
+loop-i-preserved c =
+    let l = c.loop-i in
+    let a = c.args in (
+      omega arith,
+      sides_next _ _ _ _ _ _ (plane_before (plane_in_rows a.rows.now) a.count _ l.i _ (omega arith) (omega arith) c.plane_in.ensures) c.on_positive_side.ensures l.invariant.1,
+    )
+
+pub returns : goal.returns
+returns c =
+    let l = c.loop-i in
+    let a = c.args in
+    let e : l.i ≡ 0 = omega arith in
+    l.invariant.1 ∙ ap (λ (i : ℕ). sides_of (drop i (planes_in_rows a.rows.now a.count)) a.p) e
+
+pub plane_in-requires : goal.plane_in-requires
+plane_in-requires c = omega arith

@@ -1,0 +1,43 @@
+-- `span_left` meets its contract: the planes left and what is left of the segment decide. Assumes nothing.
+use Rattle.std.proofs.Common.{◌≡◌, ◌-◌, ◌≤◌, false, drop, refl, ◌∙◌, arith, rules}
+use lib.Count.{count_trailing_zeros}
+use lib.Ieee.{lt, of_bits, round, units, odd, size, span, climb}
+use Rattle.number.proofs.Tabulate.{next as next_plane, none as no_plane}
+use Rattle.matrix.specs.Constants.{positive_zero, one}
+use Rattle.verdict.specs.Rows.{plane_in_rows, planes_in_rows}
+use Rattle.verdict.specs.Frustum.{span_left}
+use Rattle.verdict.specs.Steps.Passes.{sides_of}
+use Rattle.verdict.proofs.SpanLeft.{other_sides, nothing_left, some_left, all_passed}
+use Rattle.verdict.proofs.passes.span_left.Goals as goal
+
+pub loop-i-init : goal.loop-i-init
+unfolding of_bits round units odd size span climb count_trailing_zeros lt
+loop-i-init c = (omega arith, refl, c.requires.1, c.requires.2, refl)
+
+pub returns-then-span : goal.returns-then-span
+returns-then-span c =
+    let l = c.loop-i in
+    let g = c.args in
+    let next = next_plane (plane_in_rows g.rows.now) g.count l.i _ (omega arith) c.plane_in.ensures in
+    nothing_left _ _ _ next _ _ _ _ l.invariant.2 l.invariant.3 _ _ _ _ l.invariant.1 c.cut-span.ensures.0 c.cut-span.ensures.1 c.if-span.true ∙ l.invariant.4
+
+pub loop-i-preserved : goal.loop-i-preserved
+loop-i-preserved c =
+    let l = c.loop-i in
+    let g = c.args in
+    let next = next_plane (plane_in_rows g.rows.now) g.count l.i _ (omega arith) c.plane_in.ensures in (
+      omega arith,
+      c.if-span.false,
+      other_sides _ _ _ next _ _ l.invariant.2,
+      other_sides _ _ _ next _ _ l.invariant.3,
+      some_left _ _ _ next _ _ _ _ l.invariant.2 l.invariant.3 _ _ _ _ l.invariant.1 c.cut-span.ensures.0 c.cut-span.ensures.1 c.if-span.false ∙ l.invariant.4,
+    )
+
+pub returns : goal.returns
+returns c =
+    let l = c.loop-i in
+    let g = c.args in
+    all_passed _ _ _ _ _ (no_plane (plane_in_rows g.rows.now) g.count l.i (omega arith)) ∙ l.invariant.4
+
+pub plane_in-requires : goal.plane_in-requires
+plane_in-requires c = omega arith

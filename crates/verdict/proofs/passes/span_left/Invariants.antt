@@ -1,0 +1,20 @@
+-- `span_left` meets its contract: the planes left and what is left of the segment decide. Assumes nothing.
+use Rattle.std.proofs.Common.{◌≡◌, ◌-◌, ◌≤◌, false, drop, refl, ◌∙◌, arith, rules}
+use lib.Count.{count_trailing_zeros}
+use lib.Ieee.{lt, of_bits, round, units, odd, size, span, climb}
+use Rattle.number.proofs.Tabulate.{next as next_plane, none as no_plane}
+use Rattle.matrix.specs.Constants.{positive_zero, one}
+use Rattle.verdict.specs.Rows.{plane_in_rows, planes_in_rows}
+use Rattle.verdict.specs.Frustum.{span_left}
+use Rattle.verdict.specs.Steps.Passes.{sides_of}
+use Rattle.verdict.proofs.SpanLeft.{other_sides, nothing_left, some_left, all_passed}
+use Rattle.verdict.proofs.passes.span_left.Given as goal
+
+abbrev pub invariant-loop-i : goal.invariant-loop-i
+invariant-loop-i l =
+    (l.i ≤ l.count) × (lt l.span.end l.span.start ≡ false)
+    × (l.a_left ≡ sides_of (drop l.i (planes_in_rows l.rows l.count)) l.a) × (l.b_left ≡ sides_of (drop l.i (planes_in_rows l.rows l.count)) l.b)
+    × (span_left (drop l.i (planes_in_rows l.rows l.count)) l.a l.b l.span.start l.span.end ≡ span_left (planes_in_rows l.rows l.count) l.a l.b positive_zero one)
+
+abbrev pub decreases-loop-i : goal.decreases-loop-i
+decreases-loop-i l = l.count - l.i

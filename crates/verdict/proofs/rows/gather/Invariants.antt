@@ -1,0 +1,11 @@
+-- `rows::gather` meets its contract: the planes passed are put to their places. Assumes nothing.
+use Rattle.std.proofs.Common.{◌≡◌, ℕ, ◌-◌, ◌≤◌, length, sym, refl, ◌∙◌, subst, arith, length-set, rules}
+use Rattle.verdict.specs.Rows.{rows_length, with_planes}
+use Rattle.verdict.proofs.SideBySide.{next_put}
+use Rattle.verdict.proofs.rows.gather.Given as goal
+
+abbrev pub invariant-loop-i : goal.invariant-loop-i
+invariant-loop-i l = (l.i ≤ l.count) × (length l.rows ≡ rows_length) × (l.rows ≡ with_planes l.view l.i l.initial.rows)
+
+abbrev pub decreases-loop-i : goal.decreases-loop-i
+decreases-loop-i l = l.count - l.i

@@ -1,0 +1,127 @@
+-- `intersects_triangle` meets its contract: its tests are those of the definition, in their order. Assumes nothing.
+-- where no corner is inside, a side is in view if something of it is left
+use Rattle.std.proofs.Common.{◌≡◌, ℕ, ◌≤◌, Bool, true, false, cond, ◌&&◌, ◌||◌, eqb, List, take, sym, refl, ap, ◌∙◌, rules, eq-eqb, ne_eqb}
+use lib.Bits.{bit_and, bit_or}
+use lib.Ieee.{Float}
+use Rattle.number.specs.Limits.{fewest_planes}
+use Rattle.number.specs.Every.{every}
+use Rattle.number.proofs.Tabulate.{as_many as plane_count_lem, first as first_planes}
+use Rattle.matrix.specs.Constants.{positive_zero, one}
+use Rattle.matrix.specs.declared.vec.Vec3d.{Vec3d}
+use Rattle.verdict.specs.declared.plane.Plane.{Plane}
+use Rattle.verdict.specs.declared.ray.Ray.{Ray}
+use Rattle.verdict.specs.View.{ray_count, plane_at, planes_of, rays_of}
+use Rattle.verdict.specs.Frustum.{point_in_view, has_end, span_left, segment_in_view, has_corner, has_corners, some_hit, sight_lines, triangle_in_view}
+use Rattle.verdict.specs.Steps.Passes.{sides_of, all_planes, side_left, near_and_far_in}
+use Rattle.verdict.proofs.PlanesHeld.{has_original}
+use Rattle.verdict.proofs.Sides.{some_corner, corner_inside, all_corners, near_and_far_lem}
+use Rattle.verdict.proofs.triangle.intersects_triangle.Goals as goal
+
+outside : (a b c e f g u v w h : Bool)
+    → (a || b || c || e && u || f && v || g && w || h) ≡ (a || b || c || e && (a || b || u) || f && (b || c || v) || g && (c || a || w) || h)
+outside true b c e f g u v w h = refl
+outside false true c e f g u v w h = refl
+outside false false true e f g u v w h = refl
+outside false false false e f g u v w h = refl
+
+module _ (s : List Float) (count : ℕ) (h : fewest_planes ≤ count) (a b c : Vec3d) (m n o : ℕ) where
+  abbrev ps : List Plane
+  ps = planes_of s fewest_planes
+
+  abbrev rs : List Ray
+  rs = rays_of s count
+
+  -- the verdict by the original planes
+  abbrev by : List Plane → Bool
+  by os =
+      every (has_corner a b c) os
+      && (point_in_view os a || point_in_view os b || point_in_view os c
+      || segment_in_view os a b || segment_in_view os b c || segment_in_view os c a
+      || some_hit (sight_lines os rs a b c) a b c)
+
+  is : by ps ≡ triangle_in_view (planes_of s count) rs a b c
+  unfolding triangle_in_view
+  is = ap by (sym (first_planes (plane_at s) count fewest_planes h))
+
+  module _ (u : m ≡ sides_of ps a) (v : n ≡ sides_of ps b) (w : o ≡ sides_of ps c) where
+    settled : (x y z₀ z₁ z₂ h : Bool) → eqb (bit_or (bit_or m n) o) (all_planes fewest_planes) ≡ x → (eqb m (all_planes fewest_planes) || eqb n (all_planes fewest_planes) || eqb o (all_planes fewest_planes)) ≡ y
+        → z₀ ≡ side_left ps a b → z₁ ≡ side_left ps b c → z₂ ≡ side_left ps c a → h ≡ some_hit (sight_lines ps rs a b c) a b c
+        → (x && (y || z₀ || z₁ || z₂ || h)) ≡ triangle_in_view (planes_of s count) rs a b c
+    unfolding segment_in_view
+    settled x y z₀ z₁ z₂ h p q e f g l =
+        let i = sym (some_corner ps fewest_planes (plane_count_lem (plane_at s) fewest_planes) a b m n u v c o w ∙ p) in
+        let j = sym (corner_inside ps fewest_planes (plane_count_lem (plane_at s) fewest_planes) a b m n u v c o w ∙ q) in
+        let left : Vec3d → Vec3d → Bool = λ x y. span_left ps x y positive_zero one in
+        (λ t. i t && (j t || e t || f t || g t || l t))
+        ∙ ap (λ (z : Bool). every (has_corner a b c) ps && z)
+        (outside (point_in_view ps a) (point_in_view ps b) (point_in_view ps c)
+        (every (has_end a b) ps) (every (has_end b c) ps) (every (has_end c a) ps) (left a b) (left b c) (left c a)
+        (some_hit (sight_lines ps rs a b c) a b c))
+        ∙ is
+
+    tried : (k : ℕ) → k ≡ cond (near_and_far_in (bit_and (bit_and m n) o)) 1 ray_count → some_hit (take k rs) a b c ≡ some_hit (sight_lines ps rs a b c) a b c
+    tried k e =
+        let f = near_and_far_lem (plane_at s) (has_corners a b c) (bit_and (bit_and m n) o) (all_corners ps fewest_planes (plane_count_lem (plane_at s) fewest_planes) a b m n u v c o w) in
+        ap (λ (j : ℕ). some_hit (take j rs) a b c) (e ∙ sym (ap (λ (z : Bool). cond z 1 ray_count) f))
+
+pub side_in_view-requires : goal.side_in_view-requires
+side_in_view-requires c = (has_original c.requires, c.sides-sides0.ensures, c.sides-sides1.ensures)
+
+pub side_in_view-requires-2 : goal.side_in_view-requires-2
+side_in_view-requires-2 c = (has_original c.requires, c.sides-sides1.ensures, c.sides-sides2.ensures)
+
+pub side_in_view-requires-3 : goal.side_in_view-requires-3
+side_in_view-requires-3 c = (has_original c.requires, c.sides-sides2.ensures, c.sides-sides0.ensures)
+
+pub line_meets-requires : goal.line_meets-requires
+line_meets-requires c =
+    (c.sight_lines.ensures.1, c.requires)
+
+pub returns-then-sides0-sides1-ne-ORIGINAL_PLANES : goal.returns-then-sides0-sides1-ne-ORIGINAL_PLANES
+returns-then-sides0-sides1-ne-ORIGINAL_PLANES c =
+    let a = c.args in
+    settled a.view.now a.count c.requires.fewest a.p0 a.p1 a.p2 _ _ _ c.sides-sides0.ensures c.sides-sides1.ensures c.sides-sides2.ensures
+    false _ _ _ _ _ (ne_eqb _ _ c.if-sides0-sides1-ne-ORIGINAL_PLANES.true) refl refl refl refl refl
+
+pub returns-then-sides0-sides1 : goal.returns-then-sides0-sides1
+returns-then-sides0-sides1 c =
+    let a = c.args in
+    settled a.view.now a.count c.requires.fewest a.p0 a.p1 a.p2 _ _ _ c.sides-sides0.ensures c.sides-sides1.ensures c.sides-sides2.ensures
+    true true _ _ _ _ (eq-eqb _ _ c.if-sides0-sides1-ne-ORIGINAL_PLANES.false) c.if-sides0-sides1.true refl refl refl refl
+
+pub returns-then-side_in_view : goal.returns-then-side_in_view
+returns-then-side_in_view c =
+    let a = c.args in
+    settled a.view.now a.count c.requires.fewest a.p0 a.p1 a.p2 _ _ _ c.sides-sides0.ensures c.sides-sides1.ensures c.sides-sides2.ensures
+    true false true _ _ _ (eq-eqb _ _ c.if-sides0-sides1-ne-ORIGINAL_PLANES.false) c.if-sides0-sides1.false (sym c.if-side_in_view.true ∙ c.side_in_view.ensures) refl refl refl
+
+pub returns-then-side_in_view-2 : goal.returns-then-side_in_view-2
+returns-then-side_in_view-2 c =
+    let a = c.args in
+    settled a.view.now a.count c.requires.fewest a.p0 a.p1 a.p2 _ _ _ c.sides-sides0.ensures c.sides-sides1.ensures c.sides-sides2.ensures
+    true false false true _ _ (eq-eqb _ _ c.if-sides0-sides1-ne-ORIGINAL_PLANES.false) c.if-sides0-sides1.false (sym c.if-side_in_view.false ∙ c.side_in_view.ensures)
+    (sym c.if-side_in_view-2.true ∙ c.side_in_view-2.ensures) refl refl
+
+pub returns-then-side_in_view-3 : goal.returns-then-side_in_view-3
+returns-then-side_in_view-3 c =
+    let a = c.args in
+    settled a.view.now a.count c.requires.fewest a.p0 a.p1 a.p2 _ _ _ c.sides-sides0.ensures c.sides-sides1.ensures c.sides-sides2.ensures
+    true false false false true _ (eq-eqb _ _ c.if-sides0-sides1-ne-ORIGINAL_PLANES.false) c.if-sides0-sides1.false (sym c.if-side_in_view.false ∙ c.side_in_view.ensures)
+    (sym c.if-side_in_view-2.false ∙ c.side_in_view-2.ensures) (sym c.if-side_in_view-3.true ∙ c.side_in_view-3.ensures) refl
+
+pub returns : goal.returns
+returns c =
+    let a = c.args in
+    settled a.view.now a.count c.requires.fewest a.p0 a.p1 a.p2 _ _ _ c.sides-sides0.ensures c.sides-sides1.ensures c.sides-sides2.ensures
+    true false false false false _ (eq-eqb _ _ c.if-sides0-sides1-ne-ORIGINAL_PLANES.false) c.if-sides0-sides1.false (sym c.if-side_in_view.false ∙ c.side_in_view.ensures)
+    (sym c.if-side_in_view-2.false ∙ c.side_in_view-2.ensures) (sym c.if-side_in_view-3.false ∙ c.side_in_view-3.ensures)
+    (c.line_meets.ensures ∙ tried a.view.now a.count c.requires.fewest a.p0 a.p1 a.p2 _ _ _ c.sides-sides0.ensures c.sides-sides1.ensures c.sides-sides2.ensures _ c.sight_lines.ensures.0)
+
+pub sides-sides0-requires : goal.sides-sides0-requires
+sides-sides0-requires c = has_original c.requires
+
+pub sides-sides1-requires : goal.sides-sides1-requires
+sides-sides1-requires c = has_original c.requires
+
+pub sides-sides2-requires : goal.sides-sides2-requires
+sides-sides2-requires c = has_original c.requires

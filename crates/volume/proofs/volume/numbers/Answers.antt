@@ -1,0 +1,54 @@
+-- `numbers` meets its contract: each plane is its side and each ray its edge. Assumes nothing.
+use mathlib.Core.Path.{◌≡◌, ap, ap₂, ◌∙◌}
+use mathlib.Core.Bool.{Bool, true, false}
+use mathlib.Core.List.{List, [], ◌∷◌, ◌++◌, flat_map}
+use borrow.Author.Rules.{rules}
+use lib.IntN.{pos}
+use lib.Ieee.{Float, neg, binary64, of_bits, of_int}
+use Rattle.number.specs.Tabulate.{tabulate}
+use Rattle.matrix.specs.Constants.{rounded, one}
+use Rattle.matrix.specs.Matrix.{transpose}
+use Rattle.matrix.specs.declared.matrix.Mat4d.{Mat4d}
+use Rattle.matrix.specs.declared.vec.Vec4d.{Vec4d}
+use Rattle.matrix.proofs.Literals.{one_bits}
+use Rattle.verdict.specs.declared.plane.Plane.{Plane}
+use Rattle.verdict.specs.declared.ray.Ray.{Ray}
+use Rattle.verdict.specs.Plane.{numbers as plane_numbers}
+use Rattle.verdict.specs.Ray.{numbers as ray_numbers}
+use Rattle.volume.specs.Volume.{side, clip_plane, edge, corner_ray, numbers}
+use Rattle.volume.proofs.volume.numbers.Goals as goal
+
+abbrev unit : Float
+unit = of_bits binary64 0x3ff0_0000_0000_0000
+
+-- the numbers of six planes and four rays, as the code has their count
+abbrev row : (l r b t n f : Plane) (p q u v : Ray) → List Float
+row l r b t n f p q u v =
+    of_int binary64 (pos 6) ∷ flat_map plane_numbers (l ∷ r ∷ b ∷ t ∷ n ∷ f ∷ []) ++ flat_map ray_numbers (p ∷ q ∷ u ∷ v ∷ [])
+
+module _ (m i : Mat4d) where
+  listed : {l r b t n f : Plane} {p q u v : Ray} → l ≡ clip_plane m 0 → r ≡ clip_plane m 1 → b ≡ clip_plane m 2 → t ≡ clip_plane m 3 → n ≡ clip_plane m 4 → f ≡ clip_plane m 5
+      → p ≡ corner_ray i 0 → q ≡ corner_ray i 1 → u ≡ corner_ray i 2 → v ≡ corner_ray i 3 → row l r b t n f p q u v ≡ numbers m i
+  unfolding numbers tabulate flat_map of_int
+  listed a b c d e f g h j k s = row (a s) (b s) (c s) (d s) (e s) (f s) (g s) (h s) (j s) (k s)
+
+  module _ (columns : Mat4d) (e : columns ≡ transpose m) where
+    of_columns : (s : Bool) (row : Mat4d → Vec4d) (x : Plane) → x ≡ side s columns.r3 (row columns) → x ≡ side s (transpose m).r3 (row (transpose m))
+    of_columns s row x q = q ∙ ap (λ (c : Mat4d). side s c.r3 (row c)) e
+
+  of_signs : (s t : Float → Float) (x : Ray) → x ≡ edge i (s unit) (t unit) → x ≡ edge i (s one) (t one)
+  of_signs s t x q = q ∙ ap (λ (z : Float). edge i (s z) (t z)) one_bits
+
+abbrev same : Float → Float
+same x = x
+
+pub returns : goal.returns
+unfolding flat_map
+returns c =
+    let a = LOOK turned.before.args in
+    let by = of_columns a.matrix a.inverse _ LOOK turned.transpose.ensures in
+    let at = of_signs a.matrix a.inverse in
+    listed a.matrix a.inverse (by false (λ m. m.r0) _ LOOK left.at_least.ensures) (by true (λ m. m.r0) _ LOOK right.at_most.ensures)
+    (by false (λ m. m.r1) _ LOOK bottom.at-least2.ensures) (by true (λ m. m.r1) _ LOOK top.at-most2.ensures) (by false (λ m. m.r2) _ LOOK near.at-least3.ensures)
+    (by true (λ m. m.r2) _ c.at_most-far.ensures) (at neg neg _ c.edge-left_bottom.ensures) (at neg same _ c.edge-left_top.ensures) (at same same _ c.edge-right_top.ensures)
+    (at same neg _ c.edge-right_bottom.ensures)

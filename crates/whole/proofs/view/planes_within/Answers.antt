@@ -1,0 +1,37 @@
+-- `planes_within` meets its contract: the planes left decide. Assumes nothing.
+use mathlib.Core.Path.{◌≡◌, refl, ◌∙◌}
+use Prim.Native.Nat.{◌-◌, ◌≤◌}
+use native.Mathlib.Omega.{arith}
+use borrow.Author.Rules.{rules}
+use lib.ListN.{drop}
+use Rattle.number.specs.Every.{every}
+use Rattle.number.proofs.Tabulate.{next, none}
+use Rattle.number.proofs.ListLoops.{fails, holds, all_hold}
+use Rattle.whole.specs.SegmentCall.{plane_at, planes_of, plane_within}
+use Rattle.whole.proofs.view.planes_within.Goals as goal
+
+pub loop-i-init : goal.loop-i-init
+loop-i-init c = (omega arith, refl)
+
+pub plane_within-requires : goal.plane_within-requires
+plane_within-requires c = omega arith
+
+pub returns-then-not-plane_within : goal.returns-then-not-plane_within
+returns-then-not-plane_within c =
+    let l = c.loop-i in
+    let a = c.args in
+    fails plane_within _ _ _ (next (plane_at a.view.now) a.count l.i _ (omega arith) refl) _ c.plane_within.ensures c.if-not-plane_within.true ∙ l.invariant.1
+
+pub loop-i-preserved : goal.loop-i-preserved
+loop-i-preserved c =
+    let l = c.loop-i in
+    let a = c.args in (
+      omega arith,
+      holds plane_within _ _ _ (next (plane_at a.view.now) a.count l.i _ (omega arith) refl) _ c.plane_within.ensures c.if-not-plane_within.false ∙ l.invariant.1,
+    )
+
+pub returns : goal.returns
+returns c =
+    let l = c.loop-i in
+    let a = c.args in
+    all_hold plane_within _ (none (plane_at a.view.now) a.count l.i (omega arith)) ∙ l.invariant.1
