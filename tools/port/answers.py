@@ -51,13 +51,16 @@ class Walk:
         step, rest = fields[0], fields[1:]
         here = self.places[place]
         if here[1] is None:
-            return ".".join(["c", *fields])
+            first = {"pre": "requires", "fits": "ranges", "good": "ranges"}.get(fields[0], fields[0])
+            return ".".join(["c", first, *fields[1:]])
         arm = self.arms[place]
         if arm:
             for name, old, path in sorted(arm[2], key=lambda it: -len(it[2])):
                 if norm(old) == norm(step) and rest[: len(path)] == path and path:
                     return ".".join(["c", arm[0], name, *rest[len(path) :]])
         if norm(here[2][0]) == norm(step):
+            if rest:
+                rest[0] = {"taken": "true", "left": "false", "inv": "invariant", "entry": "initial", "kept": "auto", "last": "new"}.get(rest[0], rest[0])
             known = {norm(old): name for name, old in self.typed[place]}
             if rest and rest[0] == "given" and norm(step) in known:
                 return ".".join(["c.type_inv", known[norm(step)], *rest[1:]])
@@ -94,7 +97,14 @@ def body_of(walk, place, text, where):
             env.pop(word, None)
             out.append(PATH.sub(path, found[0]))
         at = found.end()
-    return "".join(out).rstrip()
+    # a test of `!x` says now what x is
+    return re.sub(r"\(?not-(?:true|false) _ \(?(c\.[\w\-']*if-not-[\w\-]*\.(?:true|false))\)?(?(1))", told, "".join(out)).rstrip()
+
+
+def told(found):
+    text, path = found[0], found[1]
+    opened, closed = text.count("("), text.count(")")
+    return "(" * max(opened - closed, 0) + path + ")" * max(closed - opened, 0)
 
 
 def invariant_of(walk, number, params, text):
@@ -229,7 +239,8 @@ def convert(crate, function, data):
             if lam and lam[1].strip() not in TRIVIAL and number not in seen:
                 new = walk.needs[number][1]
                 body = body_of(walk, walk.index[walk.asked_at[number]], lam[1], where + "." + new)
-                answers.append(f"pub {new} : goal.{new}\n{new} c = {body}")
+                unfold = "".join(line + "\n" for line in spec.split("\n") if line.startswith("unfolding"))
+                answers.append(f"pub {new} : goal.{new}\n{unfold}{new} c = {body}")
     else:
         odd = [it for it in given if it.startswith("(λ") and not re.search(r"\. (tt|search rules)\)\Z", it)]
         if odd:

@@ -82,7 +82,7 @@ returns-then-not-segment_planes-axis_within c =
     let g : c.segment_planes.result && (c.axis_within.result && c.axis_within-2.result && c.axis_within-3.result) ≡ every plane_within (planes_of v n) && box_within b =
     λ t. (c.segment_planes.ensures ∙ ap (λ (z : Bool). z && every plane_within (planes_of v n)) long) t
     && (c.axis_within.ensures t && c.axis_within-2.ensures t && c.axis_within-3.ensures t) in
-    off_grid v b r c.if-bounds-ne-RANGE_LENGTH.false l n e c.if-count-lt-FEWEST_PLANES.false c.if-count-gt-MOST_PLANES.false k c.if-room-ne-WITNESS_LENGTH.false (sym g ∙ not-true _ c.if-not-segment_planes-axis_within.true)
+    off_grid v b r c.if-bounds-ne-RANGE_LENGTH.false l n e c.if-count-lt-FEWEST_PLANES.false c.if-count-gt-MOST_PLANES.false k c.if-room-ne-WITNESS_LENGTH.false (sym g ∙ c.if-not-segment_planes-axis_within.true)
 
 pub returns : goal.returns
 returns c =
@@ -97,4 +97,4 @@ returns c =
     let g : c.segment_planes.result && (c.axis_within.result && c.axis_within-2.result && c.axis_within-3.result) ≡ every plane_within (planes_of v n) && box_within b =
     λ t. (c.segment_planes.ensures ∙ ap (λ (z : Bool). z && every plane_within (planes_of v n)) long) t
     && (c.axis_within.ensures t && c.axis_within-2.ensures t && c.axis_within-3.ensures t) in
-    on_grid_lem v b r c.if-bounds-ne-RANGE_LENGTH.false l n e c.if-count-lt-FEWEST_PLANES.false c.if-count-gt-MOST_PLANES.false k c.if-room-ne-WITNESS_LENGTH.false (sym g ∙ not-false _ c.if-not-segment_planes-axis_within.false)
+    on_grid_lem v b r c.if-bounds-ne-RANGE_LENGTH.false l n e c.if-count-lt-FEWEST_PLANES.false c.if-count-gt-MOST_PLANES.false k c.if-room-ne-WITNESS_LENGTH.false (sym g ∙ c.if-not-segment_planes-axis_within.false)

@@ -35,7 +35,7 @@ returns-then-not-reaches c =
     let n = c.in-Count.n in
     let e = sym (ap counted_of c.in-Count.is) ∙ c.checked-counted.ensures in
     let p = passed v b (length w) n e in
-    answers v b w _ w (outcome n) e (none_shares v b w n (c.reaches.ensures (not-true _ c.if-not-reaches.true)))
+    answers v b w _ w (outcome n) e (none_shares v b w n (c.reaches.ensures c.if-not-reaches.true))
 
 pub shared-p-requires : goal.shared-p-requires
 shared-p-requires c =

@@ -31,7 +31,7 @@ returns-then-not-holds c =
     let P = constraint_at c.args.view.now c.args.bounds.now l.i in (
       λ e. absurd (clash (sym e)),
       λ e t. it_fails c.args.p P c.constraint-c.result c.constraint-c.ensures c.holds.result c.holds.ensures
-          (not-true _ c.if-not-holds.true) (t.each l.i (omega arith)),
+          c.if-not-holds.true (t.each l.i (omega arith)),
     )
 
 pub loop-i-smaller : goal.loop-i-smaller
@@ -43,7 +43,7 @@ loop-i-preserved c =
     let P = constraint_at c.args.view.now c.args.bounds.now l.i in (
       omega arith,
       one_seen l.i l.invariant.1
-          (it_holds c.args.p P c.constraint-c.result c.constraint-c.ensures c.holds.result c.holds.ensures (not-false _ c.if-not-holds.false)),
+          (it_holds c.args.p P c.constraint-c.result c.constraint-c.ensures c.holds.result c.holds.ensures c.if-not-holds.false),
     )
 
 pub returns : goal.returns

@@ -36,7 +36,7 @@ pub returns-then-not-holds : goal.returns-then-not-holds
 returns-then-not-holds c =
     let l = c.loop-i in
     λ e. behind_none c.args.view.now c.args.bounds.now (6 + l.i) (faces + c.args.count) (omega arith) (omega arith)
-    c.constraint-c.result c.constraint-c.ensures c.farthest.result c.farthest.ensures c.holds.result c.holds.ensures (not-true _ c.if-not-holds.true)
+    c.constraint-c.result c.constraint-c.ensures c.farthest.result c.farthest.ensures c.holds.result c.holds.ensures c.if-not-holds.true
 
 pub loop-i-smaller : goal.loop-i-smaller
 loop-i-smaller c = omega arith

@@ -12,4 +12,5 @@ returns c =
     answered _ _ _ _ (eq-eqb _ _ c.if-m-ne-MATRIX_LENGTH.false) (c.determinant3.ensures ∙ ap determinant3 c.load.ensures)
 
 pub returns-then-m-ne-MATRIX_LENGTH : goal.returns-then-m-ne-MATRIX_LENGTH
+unfolding determinant_call
 returns-then-m-ne-MATRIX_LENGTH c = no_answer _ _ _ (ne_eqb _ _ c.if-m-ne-MATRIX_LENGTH.true)

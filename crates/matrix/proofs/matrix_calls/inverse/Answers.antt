@@ -42,7 +42,9 @@ returns c =
     c.in-Matrix.is)
 
 pub returns-then-m-ne-MATRIX_LENGTH : goal.returns-then-m-ne-MATRIX_LENGTH
+unfolding inverse_call
 returns-then-m-ne-MATRIX_LENGTH c = no_input _ _ _ _ (ne_eqb _ _ c.if-m-ne-MATRIX_LENGTH.true)
 
 pub returns-then-out-ne-MATRIX_LENGTH : goal.returns-then-out-ne-MATRIX_LENGTH
+unfolding inverse_call
 returns-then-out-ne-MATRIX_LENGTH c = no_room _ _ _ _ (eq-eqb _ _ c.if-m-ne-MATRIX_LENGTH.false) c.if-out-ne-MATRIX_LENGTH.true

@@ -12,4 +12,5 @@ returns c =
     c.of.ensures ∙ answered _ _ _ _ (eq-eqb _ _ c.if-m-ne-MATRIX_LENGTH.false) (c.is_right_handed.ensures ∙ ap right_handed c.load.ensures)
 
 pub returns-then-m-ne-MATRIX_LENGTH : goal.returns-then-m-ne-MATRIX_LENGTH
+unfolding right_handed_call
 returns-then-m-ne-MATRIX_LENGTH c = no_answer _ _ _ (ne_eqb _ _ c.if-m-ne-MATRIX_LENGTH.true)

@@ -19,10 +19,13 @@ returns c =
     c.row_product.ensures c.row_product-2.ensures c.row_product-3.ensures c.row_product-4.ensures)))
 
 pub returns-then-a-ne-MATRIX_LENGTH : goal.returns-then-a-ne-MATRIX_LENGTH
+unfolding product_call
 returns-then-a-ne-MATRIX_LENGTH c = no_input _ _ _ _ (both (ne_eqb _ _ c.if-a-ne-MATRIX_LENGTH.true) refl)
 
 pub returns-then-b-ne-MATRIX_LENGTH : goal.returns-then-b-ne-MATRIX_LENGTH
+unfolding product_call
 returns-then-b-ne-MATRIX_LENGTH c = no_input _ _ _ _ (both (eq-eqb _ _ c.if-a-ne-MATRIX_LENGTH.false) (ne_eqb _ _ c.if-b-ne-MATRIX_LENGTH.true))
 
 pub returns-then-out-ne-MATRIX_LENGTH : goal.returns-then-out-ne-MATRIX_LENGTH
+unfolding product_call
 returns-then-out-ne-MATRIX_LENGTH c = no_room _ _ _ _ (both (eq-eqb _ _ c.if-a-ne-MATRIX_LENGTH.false) (eq-eqb _ _ c.if-b-ne-MATRIX_LENGTH.false)) c.if-out-ne-MATRIX_LENGTH.true

@@ -16,10 +16,13 @@ returns c =
     (ap write (ap coordinates (c.transform.ensures ∙ ap₂ transformed c.load.ensures c.load-2.ensures)))
 
 pub returns-then-m-ne-MATRIX_LENGTH : goal.returns-then-m-ne-MATRIX_LENGTH
+unfolding transform_call
 returns-then-m-ne-MATRIX_LENGTH c = no_input _ _ _ _ (both (ne_eqb _ _ c.if-m-ne-MATRIX_LENGTH.true) refl)
 
 pub returns-then-p-ne-POINT_LENGTH : goal.returns-then-p-ne-POINT_LENGTH
+unfolding transform_call
 returns-then-p-ne-POINT_LENGTH c = no_input _ _ _ _ (both (eq-eqb _ _ c.if-m-ne-MATRIX_LENGTH.false) (ne_eqb _ _ c.if-p-ne-POINT_LENGTH.true))
 
 pub returns-then-out-ne-POINT_LENGTH : goal.returns-then-out-ne-POINT_LENGTH
+unfolding transform_call
 returns-then-out-ne-POINT_LENGTH c = no_room _ _ _ _ (both (eq-eqb _ _ c.if-m-ne-MATRIX_LENGTH.false) (eq-eqb _ _ c.if-p-ne-POINT_LENGTH.false)) c.if-out-ne-POINT_LENGTH.true

@@ -20,7 +20,9 @@ returns c =
     refl
 
 pub returns-then-range-ne-RANGE_LENGTH : goal.returns-then-range-ne-RANGE_LENGTH
+unfolding corners_call
 returns-then-range-ne-RANGE_LENGTH c = no_input _ _ _ _ (ne_eqb _ _ c.if-range-ne-RANGE_LENGTH.true)
 
 pub returns-then-out-ne-CORNERS_LENGTH : goal.returns-then-out-ne-CORNERS_LENGTH
+unfolding corners_call
 returns-then-out-ne-CORNERS_LENGTH c = no_room _ _ _ _ (eq-eqb _ _ c.if-range-ne-RANGE_LENGTH.false) c.if-out-ne-CORNERS_LENGTH.true

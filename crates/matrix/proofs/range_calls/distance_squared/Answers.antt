@@ -12,7 +12,9 @@ returns c =
     answered _ _ _ _ (both (eq-eqb _ _ c.if-range-ne-RANGE_LENGTH.false) (eq-eqb _ _ c.if-p-ne-POINT_LENGTH.false)) (c.distance_squared.ensures ∙ ap₂ distance_squared c.load.ensures c.load-2.ensures)
 
 pub returns-then-range-ne-RANGE_LENGTH : goal.returns-then-range-ne-RANGE_LENGTH
+unfolding distance_squared_call
 returns-then-range-ne-RANGE_LENGTH c = no_answer _ _ _ (both (ne_eqb _ _ c.if-range-ne-RANGE_LENGTH.true) refl)
 
 pub returns-then-p-ne-POINT_LENGTH : goal.returns-then-p-ne-POINT_LENGTH
+unfolding distance_squared_call
 returns-then-p-ne-POINT_LENGTH c = no_answer _ _ _ (both (eq-eqb _ _ c.if-range-ne-RANGE_LENGTH.false) (ne_eqb _ _ c.if-p-ne-POINT_LENGTH.true))

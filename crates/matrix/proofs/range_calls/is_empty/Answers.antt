@@ -40,4 +40,5 @@ returns c =
     answered _ _ _ _ (eq-eqb _ _ c.if-range-ne-RANGE_LENGTH.false) (by_axes _ false false _ (not_x LOOK-PLACE x) (not_y LOOK-PLACE y) (read _ _ _ _ _ c.at-5.ensures c.at-6.ensures c.if-at-3.false))
 
 pub returns-then-range-ne-RANGE_LENGTH : goal.returns-then-range-ne-RANGE_LENGTH
+unfolding is_empty_call
 returns-then-range-ne-RANGE_LENGTH c = no_answer _ _ _ (ne_eqb _ _ c.if-range-ne-RANGE_LENGTH.true)

@@ -16,7 +16,9 @@ returns c =
     (ap write (ap coordinates (c.midpoint.ensures ∙ ap midpoint c.load.ensures)))
 
 pub returns-then-range-ne-RANGE_LENGTH : goal.returns-then-range-ne-RANGE_LENGTH
+unfolding midpoint_call
 returns-then-range-ne-RANGE_LENGTH c = no_input _ _ _ _ (ne_eqb _ _ c.if-range-ne-RANGE_LENGTH.true)
 
 pub returns-then-out-ne-POINT_LENGTH : goal.returns-then-out-ne-POINT_LENGTH
+unfolding midpoint_call
 returns-then-out-ne-POINT_LENGTH c = no_room _ _ _ _ (eq-eqb _ _ c.if-range-ne-RANGE_LENGTH.false) c.if-out-ne-POINT_LENGTH.true

@@ -34,10 +34,13 @@ returns c =
     ∙ ap₂ transformed c.load-given.ensures c.load-matrix.ensures)))
 
 pub returns-then-range-ne-RANGE_LENGTH : goal.returns-then-range-ne-RANGE_LENGTH
+unfolding transformed_call
 returns-then-range-ne-RANGE_LENGTH c = no_input _ _ _ _ (both (ne_eqb _ _ c.if-range-ne-RANGE_LENGTH.true) refl)
 
 pub returns-then-m-ne-MATRIX_LENGTH : goal.returns-then-m-ne-MATRIX_LENGTH
+unfolding transformed_call
 returns-then-m-ne-MATRIX_LENGTH c = no_input _ _ _ _ (both (eq-eqb _ _ c.if-range-ne-RANGE_LENGTH.false) (ne_eqb _ _ c.if-m-ne-MATRIX_LENGTH.true))
 
 pub returns-then-out-ne-RANGE_LENGTH : goal.returns-then-out-ne-RANGE_LENGTH
+unfolding transformed_call
 returns-then-out-ne-RANGE_LENGTH c = no_room _ _ _ _ (both (eq-eqb _ _ c.if-range-ne-RANGE_LENGTH.false) (eq-eqb _ _ c.if-m-ne-MATRIX_LENGTH.false)) c.if-out-ne-RANGE_LENGTH.true

@@ -26,10 +26,13 @@ returns c =
     (ap write (ap bounds (c.union.ensures ∙ ap₂ union c.load-first.ensures c.load-second.ensures)))
 
 pub returns-then-a-ne-RANGE_LENGTH : goal.returns-then-a-ne-RANGE_LENGTH
+unfolding union_call
 returns-then-a-ne-RANGE_LENGTH c = no_input _ _ _ _ (both (ne_eqb _ _ c.if-a-ne-RANGE_LENGTH.true) refl)
 
 pub returns-then-b-ne-RANGE_LENGTH : goal.returns-then-b-ne-RANGE_LENGTH
+unfolding union_call
 returns-then-b-ne-RANGE_LENGTH c = no_input _ _ _ _ (both (eq-eqb _ _ c.if-a-ne-RANGE_LENGTH.false) (ne_eqb _ _ c.if-b-ne-RANGE_LENGTH.true))
 
 pub returns-then-out-ne-RANGE_LENGTH : goal.returns-then-out-ne-RANGE_LENGTH
+unfolding union_call
 returns-then-out-ne-RANGE_LENGTH c = no_room _ _ _ _ (both (eq-eqb _ _ c.if-a-ne-RANGE_LENGTH.false) (eq-eqb _ _ c.if-b-ne-RANGE_LENGTH.false)) c.if-out-ne-RANGE_LENGTH.true

@@ -17,10 +17,10 @@ by : (s : List Float) (b : Bool) → are_records range_length s ≡ b → (b && 
 by s b e = sym (ap (λ (t : Bool). t && leb (length s) (most_ranges * range_length)) e)
 
 pub returns-then-ranges-eq0 : goal.returns-then-ranges-eq0
-returns-then-ranges-eq0 c = let s = c.args.ranges.now in by s _ (no_record range_length s c.if-ranges-eq0.taken)
+returns-then-ranges-eq0 c = let s = c.args.ranges.now in by s _ (no_record range_length s c.if-ranges-eq0.true)
 
 pub returns-then-ranges-ne0 : goal.returns-then-ranges-ne0
-returns-then-ranges-ne0 c = let s = c.args.ranges.now in by s _ (uneven range_length s c.if-ranges-eq0.left c.if-ranges-ne0.taken)
+returns-then-ranges-ne0 c = let s = c.args.ranges.now in by s _ (uneven range_length s c.if-ranges-eq0.false c.if-ranges-ne0.true)
 
 pub returns : goal.returns
-returns c = let s = c.args.ranges.now in by s _ (are_records_lem range_length s c.if-ranges-eq0.left c.if-ranges-ne0.left)
+returns c = let s = c.args.ranges.now in by s _ (are_records_lem range_length s c.if-ranges-eq0.false c.if-ranges-ne0.false)

@@ -25,7 +25,7 @@ filled out v places n count e f g h = h ∙ (λ i. f i ++ replicate (g i - e i) 
 
 pub clear_from-requires : goal.clear_from-requires
 clear_from-requires c =
-    omega (arith, c.places_within-found.ensures.0, c.places_within-found.ensures.2, few c.args.ranges.now c.args.p c.args.limit c.args.count c.pre.0)
+    omega (arith, c.places_within-found.ensures.0, c.places_within-found.ensures.2, few c.args.ranges.now c.args.p c.args.limit c.args.count c.requires.0)
 
 pub returns : goal.returns
 returns c =

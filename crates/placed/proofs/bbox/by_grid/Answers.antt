@@ -18,11 +18,11 @@ pub returns-then-not-load : goal.returns-then-not-load
 returns-then-not-load c =
     let v = c.args.volume.now in
     let e = ap (λ (n : ℕ). are_whole_numbers (take n v)) (sym c.requires.2) in
-    view_not_whole v c.args.bbox.now (e ∙ sym c.load.ensures.0 ∙ not-true _ c.if-not-load.true)
+    view_not_whole v c.args.bbox.now (e ∙ sym c.load.ensures.0 ∙ c.if-not-load.true)
 
 pub returns-then-not-place : goal.returns-then-not-place
 returns-then-not-place c =
-    not_placed c.args.volume.now c.args.bbox.now (sym c.place.ensures.0 ∙ not-true _ c.if-not-place.true)
+    not_placed c.args.volume.now c.args.bbox.now (sym c.place.ensures.0 ∙ c.if-not-place.true)
 
 pub returns : goal.returns
 returns c =

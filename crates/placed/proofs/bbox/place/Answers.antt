@@ -16,7 +16,7 @@ use Rattle.placed.proofs.bbox.place.Goals as goal
 pub returns-then-not-load : goal.returns-then-not-load
 returns-then-not-load c =
     let b = c.args.bbox.now in
-    (ap (λ (z : Bool). z && quarter_turned (box_in b)) (sym (not-true _ c.if-not-load.true) ∙ c.load.ensures.0), λ e. absurd (false≢true e))
+    (ap (λ (z : Bool). z && quarter_turned (box_in b)) (sym c.if-not-load.true ∙ c.load.ensures.0), λ e. absurd (false≢true e))
 
 pub quarter_turned-requires : goal.quarter_turned-requires
 quarter_turned-requires c =
@@ -25,16 +25,16 @@ quarter_turned-requires c =
 pub returns-then-not-quarter_turned : goal.returns-then-not-quarter_turned
 returns-then-not-quarter_turned c =
     let l = loaded c.args.bbox.now _ _ c.requires.0 c.load.ensures.0 c.load.ensures.1 c.if-not-load.false in
-    let q = ap (λ (s : List ℤ). quarter_turned (box_of s)) (sym l.same) ∙ sym c.quarter_turned.ensures ∙ not-true _ c.if-not-quarter_turned.true in
+    let q = ap (λ (s : List ℤ). quarter_turned (box_of s)) (sym l.same) ∙ sym c.quarter_turned.ensures ∙ c.if-not-quarter_turned.true in
     (sym (both l.whole q), λ e. absurd (false≢true e))
 
 pub put_bounds-requires : goal.put_bounds-requires
 put_bounds-requires c =
     let l = loaded c.args.bbox.now _ _ c.requires.0 c.load.ensures.0 c.load.ensures.1 c.if-not-load.false in
-    (placing l.box (sym c.quarter_turned.ensures ∙ not-false _ c.if-not-quarter_turned.false), c.requires.1)
+    (placing l.box (sym c.quarter_turned.ensures ∙ c.if-not-quarter_turned.false), c.requires.1)
 
 pub returns : goal.returns
 returns c =
     let l = loaded c.args.bbox.now _ _ c.requires.0 c.load.ensures.0 c.load.ensures.1 c.if-not-load.false in
-    let q = ap (λ (s : List ℤ). quarter_turned (box_of s)) (sym l.same) ∙ sym c.quarter_turned.ensures ∙ not-false _ c.if-not-quarter_turned.false in
+    let q = ap (λ (s : List ℤ). quarter_turned (box_of s)) (sym l.same) ∙ sym c.quarter_turned.ensures ∙ c.if-not-quarter_turned.false in
     (sym (both l.whole q), λ e. c.put_bounds.ensures ∙ ap (λ (s : List ℤ). placed_bounds (box_of s)) l.same)

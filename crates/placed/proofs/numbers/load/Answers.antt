@@ -18,7 +18,7 @@ all_whole : (c : tie.At-loop invariant_loop decreases_loop) → let a = c.before
 all_whole c = sym c.before.before.are-whole.ensures ∙ not-false _ c.before.if1.false
 
 pub returns-then-not-are_whole : goal.returns-then-not-are_whole
-returns-then-not-are_whole c = (sym (not-true _ c.if-not-are_whole.true) ∙ c.are_whole.ensures, λ e. absurd (false≢true e))
+returns-then-not-are_whole c = (sym c.if-not-are_whole.true ∙ c.are_whole.ensures, λ e. absurd (false≢true e))
 
 pub loop-i-init : goal.loop-i-init
 loop-i-init c =

@@ -22,7 +22,9 @@ returns c =
     (passes _ _ _ _ (is_flag_lem b _ _ c.at.ensures c.is_flag.ensures c.if-not-is_flag.false) (ap write (ap coordinates (c.centroid.ensures ∙ ap centroid c.load.ensures))))
 
 pub returns-then-b-ne-BOX_LENGTH : goal.returns-then-b-ne-BOX_LENGTH
+unfolding centroid_call
 returns-then-b-ne-BOX_LENGTH c = no_input _ _ _ _ (ne_eqb _ _ c.if-b-ne-BOX_LENGTH.true)
 
 pub returns-then-out-ne-POINT_LENGTH : goal.returns-then-out-ne-POINT_LENGTH
+unfolding centroid_call
 returns-then-out-ne-POINT_LENGTH c = no_room _ _ _ _ (eq-eqb _ _ c.if-b-ne-BOX_LENGTH.false) c.if-out-ne-POINT_LENGTH.true

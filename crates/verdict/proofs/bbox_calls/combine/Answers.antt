@@ -34,10 +34,13 @@ returns c =
     (ap write (ap numbers (c.combine.ensures ∙ ap₂ combined c.load.ensures c.load-2.ensures))))
 
 pub returns-then-a-ne-BOX_LENGTH : goal.returns-then-a-ne-BOX_LENGTH
+unfolding combine_call
 returns-then-a-ne-BOX_LENGTH c = no_input _ _ _ _ (both (ne_eqb _ _ c.if-a-ne-BOX_LENGTH.true) refl)
 
 pub returns-then-b-ne-BOX_LENGTH : goal.returns-then-b-ne-BOX_LENGTH
+unfolding combine_call
 returns-then-b-ne-BOX_LENGTH c = no_input _ _ _ _ (both (eq-eqb _ _ c.if-a-ne-BOX_LENGTH.false) (ne_eqb _ _ c.if-b-ne-BOX_LENGTH.true))
 
 pub returns-then-out-ne-BOX_LENGTH : goal.returns-then-out-ne-BOX_LENGTH
+unfolding combine_call
 returns-then-out-ne-BOX_LENGTH c = no_room _ _ _ _ (both (eq-eqb _ _ c.if-a-ne-BOX_LENGTH.false) (eq-eqb _ _ c.if-b-ne-BOX_LENGTH.false)) c.if-out-ne-BOX_LENGTH.true

@@ -22,10 +22,13 @@ returns c =
     (passes _ _ _ _ (is_flag_lem b _ _ c.at.ensures c.is_flag.ensures c.if-not-is_flag.false) (ap write (ap numbers (c.transform.ensures ∙ ap₂ transformed_box c.load.ensures c.load-2.ensures))))
 
 pub returns-then-b-ne-BOX_LENGTH : goal.returns-then-b-ne-BOX_LENGTH
+unfolding transform_box_call
 returns-then-b-ne-BOX_LENGTH c = no_input _ _ _ _ (both (ne_eqb _ _ c.if-b-ne-BOX_LENGTH.true) refl)
 
 pub returns-then-m-ne-MATRIX_LENGTH : goal.returns-then-m-ne-MATRIX_LENGTH
+unfolding transform_box_call
 returns-then-m-ne-MATRIX_LENGTH c = no_input _ _ _ _ (both (eq-eqb _ _ c.if-b-ne-BOX_LENGTH.false) (ne_eqb _ _ c.if-m-ne-MATRIX_LENGTH.true))
 
 pub returns-then-out-ne-BOX_LENGTH : goal.returns-then-out-ne-BOX_LENGTH
+unfolding transform_box_call
 returns-then-out-ne-BOX_LENGTH c = no_room _ _ _ _ (both (eq-eqb _ _ c.if-b-ne-BOX_LENGTH.false) (eq-eqb _ _ c.if-m-ne-MATRIX_LENGTH.false)) c.if-out-ne-BOX_LENGTH.true

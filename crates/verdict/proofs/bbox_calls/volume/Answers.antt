@@ -21,4 +21,5 @@ returns c =
     (passes _ _ _ _ (is_flag_lem b _ _ c.at.ensures c.is_flag.ensures c.if-not-is_flag.false) (ap outcome (c.volume.ensures ∙ ap volume c.load.ensures)))
 
 pub returns-then-b-ne-BOX_LENGTH : goal.returns-then-b-ne-BOX_LENGTH
+unfolding volume_call
 returns-then-b-ne-BOX_LENGTH c = stops _ _ _ (ne_eqb _ _ c.if-b-ne-BOX_LENGTH.true)

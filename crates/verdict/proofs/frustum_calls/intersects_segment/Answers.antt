@@ -13,7 +13,7 @@ use Rattle.verdict.proofs.frustum_calls.intersects_segment.Goals as goal
 pub returns-then-not-p0-p1 : goal.returns-then-not-p0-p1
 returns-then-not-p0-p1 c =
     let a = c.args in
-    wrong_length _ _ _ _ _ (two_inputs point_length a.p0.now point_length a.p1.now ∙ not-true _ c.if-not-p0-p1.true) ∙ segment_call a.volume.now a.p0.now a.p1.now
+    wrong_length _ _ _ _ _ (two_inputs point_length a.p0.now point_length a.p1.now ∙ c.if-not-p0-p1.true) ∙ segment_call a.volume.now a.p0.now a.p1.now
 
 pub intersects_segment-requires : goal.intersects_segment-requires
 intersects_segment-requires c =
@@ -24,13 +24,13 @@ returns-in-Planes c =
     let a = c.args in
     c.of.ensures
     ∙ ap outcome (c.intersects_segment.ensures ∙ ap₂ (segment_in_view (planes_of a.volume.now c.in-Planes.count)) c.load.ensures c.load-in-Planes.ensures)
-    ∙ by_volume _ _ _ _ _ (two_inputs point_length a.p0.now point_length a.p1.now ∙ not-false _ c.if-not-p0-p1.false) _ _ _ (ap held_of (sym c.in-Planes.is) ∙ c.checked.ensures) refl
+    ∙ by_volume _ _ _ _ _ (two_inputs point_length a.p0.now point_length a.p1.now ∙ c.if-not-p0-p1.false) _ _ _ (ap held_of (sym c.in-Planes.is) ∙ c.checked.ensures) refl
     (next_record _ c.all_finite.ensures _ (last_record _ c.all_finite-2.ensures))
     ∙ segment_call a.volume.now a.p0.now a.p1.now
 
 pub returns-in-Refused : goal.returns-in-Refused
 returns-in-Refused c =
     let a = c.args in
-    by_volume _ _ _ _ _ (two_inputs point_length a.p0.now point_length a.p1.now ∙ not-false _ c.if-not-p0-p1.false) _ _ _ (ap held_of (sym c.in-Refused.is) ∙ c.checked.ensures) refl
+    by_volume _ _ _ _ _ (two_inputs point_length a.p0.now point_length a.p1.now ∙ c.if-not-p0-p1.false) _ _ _ (ap held_of (sym c.in-Refused.is) ∙ c.checked.ensures) refl
     (next_record _ c.all_finite.ensures _ (last_record _ c.all_finite-2.ensures))
     ∙ segment_call a.volume.now a.p0.now a.p1.now

@@ -97,7 +97,7 @@ pub returns-then-not-all : goal.returns-then-not-all
 returns-then-not-all c =
     let l = c.loop-i in
     let g = c.args in
-    let one : g.all ≡ false = not-true _ c.if-not-all.true in
+    let one : g.all ≡ false = c.if-not-all.true in
     missed g.rows.now g.count c.load-b.result c.into_space-into.result c.into_space-into.ensures g.all one
     (a_range g.rows.now g.count c.load-b.result _ g.all c.is_empty.ensures c.if-is_empty-all.false one)
     (fails (test _ _) _ _ _ (next_plane (plane_in_rows g.rows.now) g.count l.i _ (omega arith) c.plane_in.ensures) _ c.reaches_under.ensures (ap not c.if-reaches_under.false)
@@ -117,7 +117,7 @@ loop-i-preserved c =
       next (behind g.rows.now c.into_space-into.result c.load-b.result.range) l.i _ _ true l.invariant.1
           (sym (ap not c.if-reaches_under.false) ∙ ap not (c.reaches_under.ensures ∙ ap (test c.into_space-into.result c.load-b.result.range) c.plane_in.ensures))
           c.with_bit-bits.ensures,
-      λ e. absurd (subst T (sym (not-false _ c.if-not-all.false) ∙ e) tt),
+      λ e. absurd (subst T (sym c.if-not-all.false ∙ e) tt),
     )
 
 pub returns : goal.returns

@@ -53,7 +53,7 @@ pub returns-then-not-all_finite : goal.returns-then-not-all_finite
 unfolding from_matrices_call
 returns-then-not-all_finite c =
     found _ c.load.ensures c.load-2.ensures _ c.product-product.ensures _ c.inverse.ensures c.in-Matrix.is
-    (tested _ _ _ _ false c.numbers-all.ensures c.all_finite.ensures (not-true _ c.if-not-all_finite.true))
+    (tested _ _ _ _ false c.numbers-all.ensures c.all_finite.ensures c.if-not-all_finite.true)
     ∙ left _ _ _ _ (both (eq-eqb _ _ c.if-view-ne-MATRIX_LENGTH.false) (eq-eqb _ _ c.if-projection-ne-MATRIX_LENGTH.false)) (c.if-out-volume_length.false ∙ c.volume_length.ensures)
 
 pub returns : goal.returns
@@ -62,4 +62,4 @@ returns c =
     written _ 49 _ _ _ _ (both (eq-eqb _ _ c.if-view-ne-MATRIX_LENGTH.false) (eq-eqb _ _ c.if-projection-ne-MATRIX_LENGTH.false))
     (c.if-out-volume_length.false ∙ c.volume_length.ensures) (count _ _ _ c.numbers-all.ensures) c.store.ensures
     (found _ c.load.ensures c.load-2.ensures _ c.product-product.ensures _ c.inverse.ensures c.in-Matrix.is
-    (tested _ _ _ _ true c.numbers-all.ensures c.all_finite.ensures (not-false _ c.if-not-all_finite.false)))
+    (tested _ _ _ _ true c.numbers-all.ensures c.all_finite.ensures c.if-not-all_finite.false))

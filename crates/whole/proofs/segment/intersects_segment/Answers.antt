@@ -73,7 +73,7 @@ returns-then-not-point_within-planes_within c =
     let n = c.if-view-view_length-2.false ∙ c.view_length-2.ensures in
     let g : c.point_within.result && c.point_within-2.result && c.planes_within.result ≡ segment_on_grid (planes_of v k) (point_of p) (point_of q) =
     λ t. c.point_within.ensures t && c.point_within-2.ensures t && c.planes_within.ensures t in
-    off_grid v p q h i l k e c.if-count-lt-FEWEST_PLANES.false c.if-count-gt-MOST_PLANES.false n (sym g ∙ not-true _ c.if-not-point_within-planes_within.true)
+    off_grid v p q h i l k e c.if-count-lt-FEWEST_PLANES.false c.if-count-gt-MOST_PLANES.false n (sym g ∙ c.if-not-point_within-planes_within.true)
 
 pub segment_in_view-requires : goal.segment_in_view-requires
 segment_in_view-requires c =
@@ -88,7 +88,7 @@ segment_in_view-requires c =
     let n = c.if-view-view_length-2.false ∙ c.view_length-2.ensures in
     let g : c.point_within.result && c.point_within-2.result && c.planes_within.result ≡ segment_on_grid (planes_of v k) (point_of p) (point_of q) =
     λ t. c.point_within.ensures t && c.point_within-2.ensures t && c.planes_within.ensures t in
-    (omega (arith, n), h, i, sym g ∙ not-false _ c.if-not-point_within-planes_within.false)
+    (omega (arith, n), h, i, sym g ∙ c.if-not-point_within-planes_within.false)
 
 pub returns : goal.returns
 returns c =
@@ -103,5 +103,5 @@ returns c =
     let n = c.if-view-view_length-2.false ∙ c.view_length-2.ensures in
     let g : c.point_within.result && c.point_within-2.result && c.planes_within.result ≡ segment_on_grid (planes_of v k) (point_of p) (point_of q) =
     λ t. c.point_within.ensures t && c.point_within-2.ensures t && c.planes_within.ensures t in
-    answered v p q h i l k e c.if-count-lt-FEWEST_PLANES.false c.if-count-gt-MOST_PLANES.false n (sym g ∙ not-false _ c.if-not-point_within-planes_within.false) _
+    answered v p q h i l k e c.if-count-lt-FEWEST_PLANES.false c.if-count-gt-MOST_PLANES.false n (sym g ∙ c.if-not-point_within-planes_within.false) _
     (c.of.ensures ∙ ap outcome c.segment_in_view.ensures)

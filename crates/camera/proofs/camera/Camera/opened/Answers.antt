@@ -44,10 +44,10 @@ pub returns-then-not-is_finite : goal.returns-then-not-is_finite
 returns-then-not-is_finite c =
     let a = c.args in
     by_test a.inverted a.recovered a.focal-length _ _ _ _ false (sym c.in-Matrix.is) (sym c.in-Params.is) c.seeing-camera.ensures
-    c.is_finite.ensures (not-true _ c.if-not-is_finite.true)
+    c.is_finite.ensures c.if-not-is_finite.true
 
 pub returns : goal.returns
 returns c =
     let a = c.args in
     by_test a.inverted a.recovered a.focal-length _ _ _ _ true (sym c.in-Matrix.is) (sym c.in-Params.is) c.seeing-camera.ensures
-    c.is_finite.ensures (not-false _ c.if-not-is_finite.false)
+    c.is_finite.ensures c.if-not-is_finite.false

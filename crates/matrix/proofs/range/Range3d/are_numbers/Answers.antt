@@ -21,12 +21,12 @@ module _ (a b : Range3d) where
   others p q s t u v e h f k i j l m = rw (← e, h, ← f, k, ← i, ← j, ← l, ← m)
 
 pub returns-then-not-are_numbers : goal.returns-then-not-are_numbers
-returns-then-not-are_numbers c = first_fails _ _ _ c.are_numbers.ensures (not-true _ c.if-not-are_numbers.true)
+returns-then-not-are_numbers c = first_fails _ _ _ c.are_numbers.ensures c.if-not-are_numbers.true
 
 pub returns-then-not-are_numbers-2 : goal.returns-then-not-are_numbers-2
-returns-then-not-are_numbers-2 c = second_fails _ _ _ _ c.are_numbers.ensures (not-false _ c.if-not-are_numbers.false) c.are_numbers-2.ensures (not-true _ c.if-not-are_numbers-2.true)
+returns-then-not-are_numbers-2 c = second_fails _ _ _ _ c.are_numbers.ensures c.if-not-are_numbers.false c.are_numbers-2.ensures c.if-not-are_numbers-2.true
 
 pub returns : goal.returns
 returns c =
-    others _ _ _ _ _ _ _ _ c.are_numbers.ensures (not-false _ c.if-not-are_numbers.false) c.are_numbers-2.ensures (not-false _ c.if-not-are_numbers-2.false)
+    others _ _ _ _ _ _ _ _ c.are_numbers.ensures c.if-not-are_numbers.false c.are_numbers-2.ensures c.if-not-are_numbers-2.false
     c.are_numbers-3.ensures c.are_numbers-4.ensures c.are_numbers-5.ensures c.are_numbers-6.ensures

@@ -12,7 +12,7 @@ whole : (a b p q : Bool) → p ≡ a → p ≡ true → q ≡ b → q ≡ (a && 
 whole a b p q e h f = f ∙ sym (ap (λ (z : Bool). z && b) (sym e ∙ h))
 
 pub returns-then-not-is_ordered : goal.returns-then-not-is_ordered
-returns-then-not-is_ordered c = short _ _ _ c.is_ordered.ensures (not-true _ c.if-not-is_ordered.true)
+returns-then-not-is_ordered c = short _ _ _ c.is_ordered.ensures c.if-not-is_ordered.true
 
 pub returns : goal.returns
-returns c = whole _ _ _ _ c.is_ordered.ensures (not-false _ c.if-not-is_ordered.false) c.is_ordered-2.ensures
+returns c = whole _ _ _ _ c.is_ordered.ensures c.if-not-is_ordered.false c.is_ordered-2.ensures

@@ -20,13 +20,13 @@ module _ (r : Range3d) (v : Vec3d) (s t u : Bool) (p : s ≡ numbers_along r 0) 
 pub returns-then-not-are_numbers : goal.returns-then-not-are_numbers
 returns-then-not-are_numbers c =
     record {
-      is = some_fails _ _ _ _ _ c.are_numbers.ensures c.are_numbers-2.ensures c.are_numbers-3.ensures (not-true _ c.if-not-are_numbers.true);
+      is = some_fails _ _ _ _ _ c.are_numbers.ensures c.are_numbers-2.ensures c.are_numbers-3.ensures c.if-not-are_numbers.true;
       values = λ h. absurd (subst T (sym h) tt);
     }
 
 pub returns : goal.returns
 returns c =
     record {
-      is = all_hold _ _ _ _ _ c.are_numbers.ensures c.are_numbers-2.ensures c.are_numbers-3.ensures _ (not-false _ c.if-not-are_numbers.false) c.has_no_negative_zero.ensures.0;
+      is = all_hold _ _ _ _ _ c.are_numbers.ensures c.are_numbers-2.ensures c.are_numbers-3.ensures _ c.if-not-are_numbers.false c.has_no_negative_zero.ensures.0;
       values = λ h. c.has_no_negative_zero.ensures.1;
     }

@@ -47,23 +47,23 @@ module _ (distance : Float) (front : Bool) (d0 d1 d2 : Flat) (beta : Float) (p :
           rw (← p, ← q, ← r, reached, kept, v', w')
 
 pub returns-then-not-beta : goal.returns-then-not-beta
-returns-then-not-beta c = below _ _ _ _ _ _ c.beta-beta.ensures (not-true _ c.if-not-beta.true)
+returns-then-not-beta c = below _ _ _ _ _ _ c.beta-beta.ensures c.if-not-beta.true
 
 pub returns-then-not-beta-2 : goal.returns-then-not-beta-2
 returns-then-not-beta-2 c =
-    beyond _ _ _ _ _ _ c.beta-beta.ensures (not-false _ c.if-not-beta.false) (not-true _ c.if-not-beta-2.true)
+    beyond _ _ _ _ _ _ c.beta-beta.ensures c.if-not-beta.false c.if-not-beta-2.true
 
 pub returns-then-alpha : goal.returns-then-alpha
 returns-then-alpha c =
-    no_alpha _ _ _ _ _ _ c.beta-beta.ensures (not-false _ c.if-not-beta.false) (not-false _ c.if-not-beta-2.false) _ _
+    no_alpha _ _ _ _ _ _ c.beta-beta.ensures c.if-not-beta.false c.if-not-beta-2.false _ _
     c.alpha-alpha.ensures c.gamma-gamma.ensures c.if-alpha.true
 
 pub returns-then-gamma : goal.returns-then-gamma
 returns-then-gamma c =
-    no_gamma _ _ _ _ _ _ c.beta-beta.ensures (not-false _ c.if-not-beta.false) (not-false _ c.if-not-beta-2.false) _ _
+    no_gamma _ _ _ _ _ _ c.beta-beta.ensures c.if-not-beta.false c.if-not-beta-2.false _ _
     c.alpha-alpha.ensures c.gamma-gamma.ensures c.if-alpha.false c.if-gamma.true
 
 pub returns : goal.returns
 returns c =
-    hit _ _ _ _ _ _ c.beta-beta.ensures (not-false _ c.if-not-beta.false) (not-false _ c.if-not-beta-2.false) _ _
+    hit _ _ _ _ _ _ c.beta-beta.ensures c.if-not-beta.false c.if-not-beta-2.false _ _
     c.alpha-alpha.ensures c.gamma-gamma.ensures c.if-alpha.false c.if-gamma.false
