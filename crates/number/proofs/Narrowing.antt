@@ -101,11 +101,19 @@ module _ (b : ℕ) (l : b < 2047 * 2 ^ 52) (p : Scaled) (h : Normalised b p) whe
 
 pub narrow_zero : Narrowed 0 0
 unfolding of_bits narrow_of round
-narrow_zero = record { most = omega arith; rounded = λ s. elim s [ true ↦ refl | false ↦ refl ] }
+narrow_zero = record {
+  most = omega arith;
+  rounded = λ s. elim s as (λ z. of_bits binary32 (cond z (top binary32) 0 + 0) ≡ narrow_of (of_bits binary64 (cond z (top binary64) 0 + 0))) [ true ↦ refl | false ↦ refl ];
+}
 
 pub narrow_infinite : Narrowed (2047 * 2 ^ 52) (255 * 2 ^ 23)
 unfolding of_bits narrow_of round
-narrow_infinite = record { most = omega arith; rounded = λ s. elim s [ true ↦ refl | false ↦ refl ] }
+narrow_infinite = record {
+  most = omega arith;
+  rounded = λ s.
+      elim s as (λ z. of_bits binary32 (cond z (top binary32) 0 + 255 * 2 ^ 23) ≡ narrow_of (of_bits binary64 (cond z (top binary64) 0 + 2047 * 2 ^ 52)))
+      [ true ↦ refl | false ↦ refl ];
+}
 
 -- ---- by the scale
 module _ (b : ℕ) (p : Scaled) (h : Normalised b p) where

@@ -57,6 +57,12 @@ subnormal b a z e f s =
           ∙ ap (λ (i : ℕ). a * 2 ^ i) {x = z + (52 - z)} {y = 52} (omega (arith, s.some)) ∙ ap (λ (i : ℕ). i * 2 ^ 52) (e ∙ sym (ap (λ (i : ℕ). field_units binary64 i (b % 2 ^ 52)) f));
     })
 
+pub overflow_sub-zeros : goal.overflow_sub-zeros
+overflow_sub-zeros c = let s = low c.args.magnitude c.requires.0 c.if-field-eq0.true in omega (arith, s.zeros)
+
+pub overflow_sub-result : goal.overflow_sub-result
+overflow_sub-result c = let s = low c.args.magnitude c.requires.0 c.if-field-eq0.true in s.some
+
 pub returns-then-field-eq0 : goal.returns-then-field-eq0
 returns-then-field-eq0 c =
     let b = c.args.magnitude in

@@ -24,6 +24,9 @@ parts b h = go (leb (2 ^ 63) b) (leb→le (2 ^ 63) b) (nleb→lt (2 ^ 63) b)
     go true l g = let m = l tt in (omega arith, omega arith)
     go false l g = let m = g tt in (omega arith, omega arith)
 
+moved_le : (b : ℕ) → b < 2 ^ 64 → moved b ≤ 2 ^ 31
+moved_le b h = omega arith
+
 module _ (x : Float) (h : T (fits binary64 x)) (r : ℕ) (n : Narrowed (mag x) r) where
   abbrev bits : ℕ
   bits = to_bits binary64 x
@@ -44,6 +47,14 @@ returns-then-x c = let x = c.args.x in zero_by_zero_32 ∙ sym (narrow_nan x (is
 
 pub float_to_bits-bits : goal.float_to_bits-bits
 float_to_bits-bits c = let x = c.args.x in number x (not_nan x c.if-x.false)
+
+pub overflow_cast-sign : goal.overflow_cast-sign
+overflow_cast-sign c = let x = c.args.x in omega (arith, moved_le (to_bits binary64 x) (to_bits-lt binary64 x (search rules)))
+
+pub overflow_add-result : goal.overflow_add-result
+overflow_add-result c =
+    let x = c.args.x in
+    omega (arith, moved_le (to_bits binary64 x) (to_bits-lt binary64 x (search rules)), c.narrow_bits.ensures.most)
 
 pub narrow_bits-requires : goal.narrow_bits-requires
 narrow_bits-requires c = let x = c.args.x in mag_most x (search rules) (not_nan x c.if-x.false)

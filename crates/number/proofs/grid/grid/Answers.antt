@@ -71,13 +71,6 @@ written : (x y z : ℤ) (last out : List Float) → length out ≡ 3 → SFits w
 unfolding grid_numbers
 written x y z last out f a b c e = ap write (e ∙ same_room _ out (sym f) ∙ λ i. of_int binary64 (to_z-of_z w32 x a i) ∷ of_int binary64 (to_z-of_z w32 y b i) ∷ of_int binary64 (to_z-of_z w32 z c i) ∷ [])
 
--- the first coordinate, where it is on the grid
-x_on : (c : tie.After-known-told) → whole_at_lem c.before.before.before.before.before.before.before.before.before.args.p.now 0 ≡ On c.before.x.given.0.0
-x_on c = let w = c.before.before.before in is_at _ 0 _ _ _ w.before.at.ensures w.whole.ensures c.before.x.given.1
-
-y_on : (c : tie.After-known-told2) → whole_at_lem c.before.before.before.before.before.before.before.before.before.before.before.before.before.before.args.p.now 1 ≡ On c.before.y.given.0.0
-y_on c = let w = c.before.before.before in is_at _ 1 _ _ _ w.before.at2.ensures w.whole2.ensures c.before.y.given.1
-
 pub returns-then-p-ne-POINT_LENGTH : goal.returns-then-p-ne-POINT_LENGTH
 returns-then-p-ne-POINT_LENGTH c = let a = c.args in no_input a.p.now a.out.now c.if-p-ne-POINT_LENGTH.true
 
@@ -92,13 +85,13 @@ returns-in_default c =
 pub returns-in_default-whole : goal.returns-in_default-whole
 returns-in_default-whole c =
     let a = c.args in
-    second_off a.p.now a.out.now c.if-p-ne-POINT_LENGTH.false c.if-out-ne-POINT_LENGTH.false _ (x_on LOOK-PLACE k)
+    second_off a.p.now a.out.now c.if-p-ne-POINT_LENGTH.false c.if-out-ne-POINT_LENGTH.false _ (is_at a.p.now 0 _ _ _ c.at.ensures c.whole.ensures c.in-On.is)
     (is_at a.p.now 1 _ _ Off c.at-2.ensures c.whole-2.ensures c.in_default-whole.is)
 
 pub returns-in_default-whole-2 : goal.returns-in_default-whole-2
 returns-in_default-whole-2 c =
     let a = c.args in
-    third_off a.p.now a.out.now c.if-p-ne-POINT_LENGTH.false c.if-out-ne-POINT_LENGTH.false _ _ (x_on LOOK-PLACE j) (y_on LOOK-PLACE k)
+    third_off a.p.now a.out.now c.if-p-ne-POINT_LENGTH.false c.if-out-ne-POINT_LENGTH.false _ _ (is_at a.p.now 0 _ _ _ c.at.ensures c.whole.ensures c.in-On.is) (is_at a.p.now 1 _ _ _ c.at-2.ensures c.whole-2.ensures c.in-On-whole.is)
     (is_at a.p.now 2 _ _ Off c.at-3.ensures c.whole-3.ensures c.in_default-whole-2.is)
 
 pub returns : goal.returns
@@ -106,5 +99,5 @@ returns c =
     let a = c.args in
     let p = a.p.now in
     let out = a.out.now in
-    written _ _ _ c.store.new.1.0 out c.if-out-ne-POINT_LENGTH.false (search rules) (search rules) (search rules) c.store.ensures
-    ∙ all p out c.if-p-ne-POINT_LENGTH.false c.if-out-ne-POINT_LENGTH.false _ _ _ (x_on LOOK-PLACE j) (y_on LOOK-PLACE k) (is_at p 2 _ _ _ c.at-3.ensures c.whole-3.ensures c.in-On-whole-2.is)
+    written _ _ _ c.store.new.out out c.if-out-ne-POINT_LENGTH.false (search rules) (search rules) (search rules) c.store.ensures
+    ∙ all p out c.if-p-ne-POINT_LENGTH.false c.if-out-ne-POINT_LENGTH.false _ _ _ (is_at a.p.now 0 _ _ _ c.at.ensures c.whole.ensures c.in-On.is) (is_at a.p.now 1 _ _ _ c.at-2.ensures c.whole-2.ensures c.in-On-whole.is) (is_at p 2 _ _ _ c.at-3.ensures c.whole-3.ensures c.in-On-whole-2.is)

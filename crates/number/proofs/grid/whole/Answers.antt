@@ -16,6 +16,8 @@ use Rattle.number.specs.declared.grid.Coordinate.TheVariants.{On, Off}
 use Rattle.number.proofs.Centimetres.{whole_ge, whole_zero, coordinate, placed_value, placed_nan, placed_inf, off, on, zero_on, units_ge, units_lt, scale_ge, scale_lt, same_fraction}
 use Rattle.number.proofs.Nan.{is_nan_lem, not_nan, number}
 use Rattle.number.proofs.Reading.{mag, sign, infinite, value, sign_clear, sign_set}
+use Rattle.number.specs.declared.Scaled.{Scaled as Parts}
+use Rattle.number.specs.Steps.Magnitude.{Normalised}
 use Rattle.number.proofs.grid.whole.Goals as goal
 
 abbrev rounded : Float → ℕ
@@ -47,24 +49,22 @@ to_integer k h = ap (λ (b : Bool). sel b (pos k) (negsuc (2 ^ 32 - suc k))) (is
 minus_is : (k : ℕ) → k ≤ grid_limit → pos 0 -ℤ to_z w32 k ≡ neg_ℤ (pos k)
 minus_is k h = ap (λ (z : ℤ). pos 0 -ℤ z) (to_integer k h) ∙ +ℤ_idl (neg_ℤ (pos k))
 
+minus_fits : (k : ℕ) → k ≤ grid_limit → SFits w32 (neg_ℤ (pos k))
+minus_fits zero h = record { sfits = omega arith }
+minus_fits (suc k) h = record { sfits = omega arith }
+
 -- the scale, and the fraction that is rounded
 record Scaled (b : ℕ) (m w : ℕ) : Type 0 where
   least : 1073 ≤ w
   most : w < 1091
   same : closest m (2 ^ (1126 - w)) ≡ whole_nearest (units_of binary64 b) (2 ^ 1074)
 
-scaled : (c : tie.After-normalised) → Scaled (mag c.before.before.before.before.args.x) c.normalised.result.significand c.normalised.result.scale
-scaled c =
-    let b = mag c.before.before.before.before.args.x in
-    let p = c.normalised.result in
-    let h = c.normalised.ensures in
+scaled : (b : ℕ) (p : Parts) → Normalised b p → 0x3fe0_0000_0000_0000 ≤ b → b < 0x4100_0000_0000_0000 → Scaled b p.significand p.scale
+scaled b p h g l =
     let n = units_of binary64 b in
-    let lo = scale_ge p.significand p.scale n h.leading h.digits h.value 1073 (units_ge b 1021 c.before.if3.false) in
-    let hi = scale_lt p.significand p.scale n h.leading h.digits h.value 1091 (units_lt b 1039 c.before.before.if2.false) in
+    let lo = scale_ge p.significand p.scale n h.leading h.digits h.value 1073 (units_ge b 1021 g) in
+    let hi = scale_lt p.significand p.scale n h.leading h.digits h.value 1091 (units_lt b 1039 l) in
     record { least = lo; most = hi; same = same_fraction p.significand p.scale n h.leading h.digits h.value (1126 - p.scale) (omega arith) }
-
-size_is : (c : tie.After-nearest) → c.nearest.result ≡ rounded c.before.before.before.before.before.args.x
-size_is c = c.nearest.ensures ∙ (scaled c.before).same
 
 pub returns-then-x : goal.returns-then-x
 returns-then-x c = let x = c.args.x in placed_nan x (is_nan_lem x c.if-x.true)
@@ -79,22 +79,22 @@ pub returns-then-magnitude-lt4602678819172646912 : goal.returns-then-magnitude-l
 returns-then-magnitude-lt4602678819172646912 c = let x = c.args.x in small x (search rules) (not_nan x c.if-x.false) c.if-magnitude-lt4602678819172646912.true
 
 pub nearest-size-requires : goal.nearest-size-requires
-nearest-size-requires c = let s = scaled LOOK-PLACE c in (omega (arith, s.most), omega (arith, s.least), omega (arith, c.normalised-parts.ensures.digits))
+nearest-size-requires c = let s = scaled (mag c.args.x) c.normalised-parts.result c.normalised-parts.ensures c.if-magnitude-lt4602678819172646912.false c.if-magnitude-ge4683743612465315840.false in (omega (arith, s.most), omega (arith, s.least), omega (arith, c.normalised-parts.ensures.digits))
 
 pub returns-then-size-gt-GRID_LIMIT : goal.returns-then-size-gt-GRID_LIMIT
 returns-then-size-gt-GRID_LIMIT c =
     let x = c.args.x in
     off (sign x) _ c.if-size-gt-GRID_LIMIT.true
-    ∙ between x (search rules) (not_nan x c.if-x.false) (sign x) c.nearest-size.result c.if-magnitude-ge4683743612465315840.false refl (size_is LOOK-PLACE c.before)
+    ∙ between x (search rules) (not_nan x c.if-x.false) (sign x) c.nearest-size.result c.if-magnitude-ge4683743612465315840.false refl (c.nearest-size.ensures ∙ (scaled (mag c.args.x) c.normalised-parts.result c.normalised-parts.ensures c.if-magnitude-lt4602678819172646912.false c.if-magnitude-ge4683743612465315840.false).same)
 
 pub returns-then-bits-magnitude : goal.returns-then-bits-magnitude
 returns-then-bits-magnitude c =
     let x = c.args.x in
     let n = not_nan x c.if-x.false in
     let k = c.nearest-size.result in
-    ap On (to_z-of_z w32 _ (sub_t10 LOOK-PLACE c) ∙ minus_is k c.if-size-gt-GRID_LIMIT.false)
+    ap On (to_z-of_z w32 _ (subst (SFits w32) (sym (minus_is k c.if-size-gt-GRID_LIMIT.false)) (minus_fits k c.if-size-gt-GRID_LIMIT.false)) ∙ minus_is k c.if-size-gt-GRID_LIMIT.false)
     ∙ on true k c.if-size-gt-GRID_LIMIT.false
-    ∙ between x (search rules) n true k c.if-magnitude-ge4683743612465315840.false (sign_set x (search rules) n c.if-bits-magnitude.true) (size_is LOOK-PLACE c.before.before)
+    ∙ between x (search rules) n true k c.if-magnitude-ge4683743612465315840.false (sign_set x (search rules) n c.if-bits-magnitude.true) (c.nearest-size.ensures ∙ (scaled (mag c.args.x) c.normalised-parts.result c.normalised-parts.ensures c.if-magnitude-lt4602678819172646912.false c.if-magnitude-ge4683743612465315840.false).same)
 
 pub returns : goal.returns
 returns c =
@@ -103,4 +103,4 @@ returns c =
     let k = c.nearest-size.result in
     ap On (to_integer k c.if-size-gt-GRID_LIMIT.false)
     ∙ on false k c.if-size-gt-GRID_LIMIT.false
-    ∙ between x (search rules) n false k c.if-magnitude-ge4683743612465315840.false (sign_clear x (search rules) n c.if-bits-magnitude.false) (size_is LOOK-PLACE c.before.before)
+    ∙ between x (search rules) n false k c.if-magnitude-ge4683743612465315840.false (sign_clear x (search rules) n c.if-bits-magnitude.false) (c.nearest-size.ensures ∙ (scaled (mag c.args.x) c.normalised-parts.result c.normalised-parts.ensures c.if-magnitude-lt4602678819172646912.false c.if-magnitude-ge4683743612465315840.false).same)

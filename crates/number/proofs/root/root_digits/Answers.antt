@@ -2,7 +2,7 @@
 -- There the significand is 2 ^ 52 + k, and the whole root of the number searched 2 ^ 53 + k - 1, or it is 2 ^ 53 - k, and the whole root 2 ^ 54 - k - 1: the
 -- square of what follows it is beyond the number searched by the square of k. Something is left, except where k is 0, and a half stands for it. Assumes nothing.
 -- the rounded digits of the root of the number N searched
-use Rattle.std.proofs.Common.{◌≡◌, ℕ, zero, suc, ◌+◌, ◌-◌, ◌*◌, ◌/◌, ◌%◌, ◌^◌, ◌<◌, ◌≤◌, ltb, sym, ap, ◌∙◌, subst, le_of_lt, mul-le-mul, mul-pos, arith, rules, ltb-true}
+use Rattle.std.proofs.Common.{◌≡◌, ℕ, zero, suc, ◌+◌, ◌-◌, ◌*◌, ◌/◌, ◌%◌, ◌^◌, ◌<◌, ◌≤◌, true, ◌&&◌, ltb, sym, ap, ◌∙◌, subst, le_of_lt, mul-le-mul, mul-pos, arith, rules, ltb-true}
 use lib.Ieee.Nearest.{closest}
 use Rattle.number.specs.Root.{root_of, rest_of}
 use Rattle.number.proofs.Rounding.{nearest_shift}
@@ -64,37 +64,27 @@ beside m (suc zero) lo hi h l g = below m (2 ^ 53 - m) (2 ^ 53 + m - 1) (omega a
 beside m (suc (suc o)) lo hi h l g = absurd (omega arith)
 
 -- what the test says
-tested : (c : tie.Then1) → let m = c.before.args.significand in
-    let u = power (c.before.args.scale % 2) in
-    (u < m + 2 ^ 26) × (m < u + 2 ^ 26)
-tested c =
-    let m = c.before.args.significand in
-    let u = power (c.before.args.scale % 2) in
-    let t = both_hold (ltb u (m + 2 ^ 26)) (ltb m (u + 2 ^ 26)) c.if1.true in
+tested : (m u : ℕ) → (ltb u (m + 2 ^ 26) && ltb m (u + 2 ^ 26)) ≡ true → (u < m + 2 ^ 26) × (m < u + 2 ^ 26)
+tested m u e =
+    let t = both_hold (ltb u (m + 2 ^ 26)) (ltb m (u + 2 ^ 26)) e in
     (ltb-true u (m + 2 ^ 26) t.0, ltb-true m (u + 2 ^ 26) t.1)
-
--- what is found, with the half that stands for the rest
-found : (c : tie.After-search) → let a = c.before.before.args in
-    let n = a.significand * 2 ^ (1 + a.scale % 2) * 2 ^ 53 in
-    2 * c.search.result.root + c.search.result.rest ≡ 2 * root_of n + rest_of (root_of n) n
-found c =
-    let a = c.before.before.args in
-    let p = c.before.before.requires in
-    halved a.significand a.scale p.0 p.1 c.search.result.root c.search.result.rest (found_root _ _ c.search.ensures, found_rest _ _ c.search.ensures)
-
-found_lt : (c : tie.After-search) → 2 * c.search.result.root + c.search.result.rest < 2 ^ 55
-found_lt c =
-    let a = c.before.before.args in
-    let p = c.before.before.requires in
-    subst (λ (i : ℕ). i < 2 ^ 55) (sym (found c)) (small a.significand a.scale p.0 p.1)
 
 pub returns-then-square-significand : goal.returns-then-square-significand
 returns-then-square-significand c =
     let a = c.args in
     let p = c.requires in
-    beside a.significand (a.scale % 2) p.0 p.1 (omega arith) (tested LOOK-PLACE c).0 (tested LOOK-PLACE c).1
+    let t = tested a.significand (power (a.scale % 2)) c.if-square-significand.true in
+    beside a.significand (a.scale % 2) p.0 p.1 (omega arith) t.0 t.1
 
 -- ---- by the search
+pub overflow_add-found : goal.overflow_add-found
+overflow_add-found c =
+    let a = c.args in
+    let p = c.requires in
+    let s = c.search-found in
+    let f = halved a.significand a.scale p.0 p.1 s.result.root s.result.rest (found_root _ _ s.ensures, found_rest _ _ s.ensures) in
+    omega (arith, subst (λ (i : ℕ). i < 2 ^ 55) (sym f) (small a.significand a.scale p.0 p.1))
+
 pub search-found-requires : goal.search-found-requires
 search-found-requires c =
     let a = c.args in
@@ -103,7 +93,18 @@ search-found-requires c =
     (shifted_ge a.significand a.scale p.0 p.1, shifted_lt a.significand a.scale p.0 p.1)
 
 pub nearest-requires : goal.nearest-requires
-nearest-requires c = (omega arith, omega arith, omega (arith, found_lt LOOK-PLACE c.before.before))
+nearest-requires c =
+    let a = c.args in
+    let p = c.requires in
+    let s = c.search-found in
+    let f = halved a.significand a.scale p.0 p.1 s.result.root s.result.rest (found_root _ _ s.ensures, found_rest _ _ s.ensures) in
+    (omega arith, omega arith, omega (arith, subst (λ (i : ℕ). i < 2 ^ 55) (sym f) (small a.significand a.scale p.0 p.1)))
 
 pub returns : goal.returns
-returns c = c.nearest.ensures ∙ ap (λ (i : ℕ). closest i 4) (found LOOK-PLACE c.before.before.before)
+returns c =
+    let a = c.args in
+    let p = c.requires in
+    let s = c.search-found in
+    c.nearest.ensures
+    ∙ ap (λ (i : ℕ). closest i 4)
+    (halved a.significand a.scale p.0 p.1 s.result.root s.result.rest (found_root _ _ s.ensures, found_rest _ _ s.ensures))

@@ -49,5 +49,5 @@ returns c =
     let p = c.requires in
     let d = c.wrapping_sub_u64-difference in
     let e = same _ _ _ _ c.either.ensures (ap (λ (i : ℕ). 2 * i) c.either-2.ensures)
-    ∙ chosen (2 ^ 63) a.self.left a.self.trial d.result (omega (arith, p.1)) p.2 (search rules) d.ensures _ _ in
+    ∙ chosen (2 ^ 63) a.self.left a.self.trial d.result (omega (arith, p.1)) p.2 (search rules) d.ensures.value _ _ in
     record { is = e; next = λ n h s. subst (AfterBit n (a.bit / 2)) (sym e) (next n a.bit a.self h s) }
