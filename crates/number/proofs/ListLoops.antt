@@ -1,5 +1,5 @@
 -- Loops over a list: one that tests each element and leaves at the first that fails, and one that fills a slot for each. Assumes nothing.
-use Rattle.std.proofs.Common.{◌≡◌, ℕ, ◌+◌, ◌<◌, ◌≤◌, Bool, true, false, not, ◌&&◌, List, [], ◌∷◌, ◌++◌, map, length, take, drop, set, sym, refl, ap, ◌∙◌, append-nil, add-one, arith, take_all, take-suc-set}
+use Rattle.std.proofs.Common.{◌≡◌, ℕ, ◌+◌, ◌<◌, ◌≤◌, Bool, true, false, not, ◌&&◌, List, [], ◌∷◌, ◌++◌, map, length, take, drop, set, sym, ap, ◌∙◌, append-nil, add-one, take_all, take-suc-set}
 use borrow.Author.Tests.{not-true, not-false}
 use lib.Seq.{append_snoc}
 use Rattle.number.specs.Every.{every}

@@ -1,5 +1,5 @@
 -- The records of a slice: where their numbers stand, and what the tests of its length say. Assumes nothing.
-use Rattle.std.proofs.Common.{◌≡◌, ℕ, zero, suc, ◌+◌, ◌*◌, ◌/◌, ◌%◌, ◌<◌, ◌≤◌, Bool, true, false, ◌&&◌, T, ltb, List, [], ◌∷◌, ◌++◌, length, take, drop, sym, refl, ap, ◌∙◌, subst, ap₂, mul-le-mul_right, div-add-mod', arith, eqb→eq, length-drop, length-take-le, get_or-drop, get_or-take, drop-drop, take_at, drop_at, ltb-true, lt-ltb, eq-eqb, ne_eqb}
+use Rattle.std.proofs.Common.{◌≡◌, ℕ, zero, suc, ◌+◌, ◌*◌, ◌%◌, ◌<◌, ◌≤◌, Bool, true, false, ◌&&◌, T, ltb, List, [], ◌∷◌, ◌++◌, length, take, drop, sym, refl, ap, ◌∙◌, subst, ap₂, mul-le-mul_right, div-add-mod', arith, eqb→eq, length-drop, length-take-le, get_or-drop, get_or-take, drop-drop, take_at, drop_at, lt-ltb, eq-eqb, ne_eqb}
 use lib.Ieee.{Float, nan}
 use Rattle.number.specs.Every.{every}
 use Rattle.number.specs.Slice.{at}

@@ -1,7 +1,7 @@
 -- `number::nearest` meets its contract: less than a half is added, and a unit more where the kept part is odd. Assumes nothing.
-use Rattle.std.proofs.Common.{◌≡◌, ℕ, ◌+◌, ◌-◌, ◌/◌, ◌%◌, ◌^◌, ◌≤◌, sym, ap, ◌∙◌, subst, arith, pow_pos, rules}
+use Rattle.std.proofs.Common.{◌≡◌, ℕ, ◌+◌, ◌-◌, ◌/◌, ◌%◌, ◌^◌, ap, ◌∙◌}
 use lib.Bits.{bit_and, and_mask}
-use Rattle.number.proofs.Rounding.{nearest_shift, half_bit, half_bit_le}
+use Rattle.number.proofs.Rounding.{nearest_shift, half_bit}
 use Rattle.number.proofs.nearest.Goals as goal
 
 odd : (m d : ℕ) → bit_and (m / 2 ^ d) 1 ≡ m / 2 ^ d % 2

@@ -1,5 +1,5 @@
 -- `number::bytes::half_word` meets its contract: each byte stands in its place. Assumes nothing.
-use Rattle.std.proofs.Common.{arith, rules}
+use Rattle.std.proofs.Common.{arith}
 use Rattle.number.specs.Bytes.{little_endian}
 use Rattle.number.proofs.Words.{four_bytes}
 use Rattle.number.proofs.bytes.half_word.Goals as goal

@@ -1,7 +1,7 @@
 -- `number::bytes::load` meets its contract: so many numbers from the bytes are in front. Assumes nothing.
-use Rattle.std.proofs.Common.{◌≡◌, ◌-◌, ◌≤◌, length, refl, ap, ◌∙◌, arith, length-set, rules}
+use Rattle.std.proofs.Common.{refl, ap, ◌∙◌, arith, length-set}
 use lib.Ieee.{binary64, of_bits}
-use Rattle.number.proofs.Words.{filled, none_filled, one_more, all_filled, none_there}
+use Rattle.number.proofs.Words.{none_filled, one_more, all_filled, none_there}
 use Rattle.number.proofs.bytes.load.Goals as goal
 
 pub returns-then-bytes-at : goal.returns-then-bytes-at

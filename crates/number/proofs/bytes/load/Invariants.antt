@@ -1,7 +1,6 @@
 -- `number::bytes::load` meets its contract: so many numbers from the bytes are in front. Assumes nothing.
-use Rattle.std.proofs.Common.{◌≡◌, ◌-◌, ◌≤◌, length, refl, ap, ◌∙◌, arith, length-set, rules}
-use lib.Ieee.{binary64, of_bits}
-use Rattle.number.proofs.Words.{filled, none_filled, one_more, all_filled, none_there}
+use Rattle.std.proofs.Common.{◌≡◌, ◌-◌, ◌≤◌, length}
+use Rattle.number.proofs.Words.{filled}
 use Rattle.number.proofs.bytes.load.Given as goal
 
 abbrev pub invariant-loop-i : goal.invariant-loop-i

@@ -1,5 +1,5 @@
 -- `number::bytes::whole_word` meets its contract by its halves. Assumes nothing.
-use Rattle.std.proofs.Common.{arith, rules}
+use Rattle.std.proofs.Common.{arith}
 use Rattle.number.proofs.Words.{eight_bytes}
 use Rattle.number.proofs.bytes.whole_word.Goals as goal
 

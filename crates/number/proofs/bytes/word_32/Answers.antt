@@ -1,5 +1,5 @@
 -- `number::bytes::word_32` meets its contract by where the bytes end. Assumes nothing.
-use Rattle.std.proofs.Common.{◌∙◌, arith, rules}
+use Rattle.std.proofs.Common.{◌∙◌, arith}
 use Rattle.number.proofs.Words.{is_there, not_there}
 use Rattle.number.proofs.bytes.word_32.Goals as goal
 

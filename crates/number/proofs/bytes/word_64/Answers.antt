@@ -1,5 +1,5 @@
 -- `number::bytes::word_64` meets its contract by where the bytes end, and by what it calls. Assumes nothing.
-use Rattle.std.proofs.Common.{arith, rules}
+use Rattle.std.proofs.Common.{arith}
 use Rattle.number.proofs.Words.{not_there}
 use Rattle.number.proofs.bytes.word_64.Goals as goal
 

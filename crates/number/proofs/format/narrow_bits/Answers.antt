@@ -1,6 +1,6 @@
 -- `number::format::narrow_bits` meets its contract: by the scale the result is infinite, normal, zero or subnormal (`proofs/Narrowing.antt`).
 -- Assumes nothing.
-use Rattle.std.proofs.Common.{ℕ, ◌+◌, ◌-◌, ◌*◌, ◌%◌, ◌^◌, sym, subst, arith, rules}
+use Rattle.std.proofs.Common.{ℕ, sym, subst, arith}
 use Rattle.number.specs.Steps.Magnitude.{Narrowed}
 use Rattle.number.proofs.Narrowing.{narrow_zero, narrow_too_large, narrow_normal, narrow_nothing, narrow_subnormal}
 use Rattle.number.proofs.format.narrow_bits.Goals as goal

@@ -1,5 +1,5 @@
 -- `number::order::is_finite` meets its contract: just the finite magnitudes are below infinity. Assumes nothing.
-use Rattle.std.proofs.Common.{◌≡◌, refl, ap, ◌∙◌, rules}
+use Rattle.std.proofs.Common.{◌≡◌, refl, ap, ◌∙◌}
 use lib.Ieee.{Float, nan, inf, fin, binary64, div, lt, of_bits}
 use lib.Ieee.Scale.{finite}
 use Rattle.number.specs.Arithmetic.{abs_of}

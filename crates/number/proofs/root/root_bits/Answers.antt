@@ -1,5 +1,5 @@
 -- `number::root::root_bits` meets its contract: the laws of `proofs/RootBits.antt`, at the rounded significand. Assumes nothing.
-use Rattle.std.proofs.Common.{arith, rules}
+use Rattle.std.proofs.Common.{arith}
 use lib.Ieee.{binary64}
 use Rattle.number.specs.Steps.Magnitude.{units_of}
 use Rattle.number.proofs.RootBits.{rounded_hi, joined}

@@ -1,7 +1,7 @@
 -- `number::slice::all_finite` meets its contract: what was found of the numbers passed, and those left, decide; just the finite ones times zero are a zero.
 -- Assumes nothing.
 -- ---- a number times zero
-use Rattle.std.proofs.Common.{◌≡◌, ℕ, ◌+◌, ◌-◌, ◌*◌, ◌<◌, ◌≤◌, Bool, true, false, ◌&&◌, List, length, get_or, drop, sym, refl, ap, ◌∙◌, mul-pos, mul-zero, add-one, arith, lit<, drop-cons, rules}
+use Rattle.std.proofs.Common.{◌≡◌, ℕ, ◌+◌, ◌*◌, ◌<◌, Bool, true, false, ◌&&◌, List, length, get_or, drop, sym, refl, ap, ◌∙◌, mul-pos, mul-zero, add-one, arith, lit<, drop-cons}
 use lib.Seq.{drop-length}
 use lib.Ieee.{Float, nan, inf, fin, binary64, up, unlike, mul, eq, of_bits}
 use lib.Ieee.Scale.{finite}

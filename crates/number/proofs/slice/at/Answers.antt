@@ -1,5 +1,5 @@
 -- `number::slice::at` meets its contract: past the end `get_or` gives its default. Assumes nothing.
-use Rattle.std.proofs.Common.{sym, ◌∙◌, rules}
+use Rattle.std.proofs.Common.{sym, ◌∙◌}
 use lib.ListN.{get_or-eq_default}
 use lib.Ieee.{nan}
 use Rattle.number.proofs.Nan.{zero_by_zero}

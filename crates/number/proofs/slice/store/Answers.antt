@@ -1,5 +1,5 @@
 -- `number::slice::store` meets its contract by what it calls. Assumes nothing.
-use Rattle.std.proofs.Common.{sym, ◌∙◌, rules}
+use Rattle.std.proofs.Common.{sym, ◌∙◌}
 use Rattle.number.proofs.Stores.{other_length, same_room, stored_all}
 use Rattle.number.proofs.slice.store.Goals as goal
 

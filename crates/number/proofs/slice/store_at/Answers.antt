@@ -1,5 +1,5 @@
 -- `number::slice::store_at` meets its contract: what was stored so far is a copy of so many numbers. Assumes nothing.
-use Rattle.std.proofs.Common.{◌≡◌, ℕ, ◌+◌, ◌-◌, ◌<◌, ◌≤◌, List, ◌++◌, length, get_or, take, drop, set, sym, refl, ap, ◌∙◌, add-one, arith, length-set, take_all, rules}
+use Rattle.std.proofs.Common.{◌≡◌, ℕ, ◌+◌, ◌<◌, ◌≤◌, List, ◌++◌, length, get_or, take, drop, set, sym, refl, ap, ◌∙◌, add-one, arith, length-set, take_all}
 use lib.Seq.{paste, paste-zero, paste-suc}
 use lib.Ieee.{Float, nan}
 use Rattle.number.specs.Slice.{stored_at}

@@ -1,9 +1,6 @@
 -- `number::slice::store_at` meets its contract: what was stored so far is a copy of so many numbers. Assumes nothing.
-use Rattle.std.proofs.Common.{◌≡◌, ℕ, ◌+◌, ◌-◌, ◌<◌, ◌≤◌, List, ◌++◌, length, get_or, take, drop, set, sym, refl, ap, ◌∙◌, add-one, arith, length-set, take_all, rules}
-use lib.Seq.{paste, paste-zero, paste-suc}
-use lib.Ieee.{Float, nan}
-use Rattle.number.specs.Slice.{stored_at}
-use Rattle.number.proofs.Stores.{no_room_there, room_there}
+use Rattle.std.proofs.Common.{◌≡◌, ◌-◌, ◌≤◌, length}
+use lib.Seq.{paste}
 use Rattle.number.proofs.slice.store_at.Given as goal
 
 abbrev pub invariant-loop-i : goal.invariant-loop-i

@@ -1,5 +1,5 @@
 -- `number::slots::clear` meets its contract: the slots passed are filled. Assumes nothing.
-use Rattle.std.proofs.Common.{◌≡◌, ℕ, ◌-◌, ◌≤◌, List, ◌++◌, length, drop, set, replicate, refl, ap, ◌∙◌, append-nil, arith, length-set, rules}
+use Rattle.std.proofs.Common.{◌≡◌, ℕ, List, ◌++◌, length, drop, set, replicate, refl, ap, ◌∙◌, append-nil, arith, length-set}
 use borrow.Author.Fill.{fill_more}
 use lib.Seq.{drop-length}
 use Rattle.number.specs.Slots.{unused}

@@ -1,7 +1,5 @@
 -- `number::slots::clear` meets its contract: the slots passed are filled. Assumes nothing.
-use Rattle.std.proofs.Common.{◌≡◌, ℕ, ◌-◌, ◌≤◌, List, ◌++◌, length, drop, set, replicate, refl, ap, ◌∙◌, append-nil, arith, length-set, rules}
-use borrow.Author.Fill.{fill_more}
-use lib.Seq.{drop-length}
+use Rattle.std.proofs.Common.{◌≡◌, ◌-◌, ◌≤◌, ◌++◌, length, drop, replicate}
 use Rattle.number.specs.Slots.{unused}
 use Rattle.number.proofs.slots.clear.Given as goal
 

@@ -1,5 +1,5 @@
 -- `number::answer::Place::put` meets its contract: a refusal has its number, and leaves what is lent. Assumes nothing.
-use Rattle.std.proofs.Common.{ℕ, sym, ap, ◌∙◌, rules}
+use Rattle.std.proofs.Common.{ℕ, sym, ap, ◌∙◌}
 use Rattle.number.specs.Answer.{lone, put_place, place_of}
 use Rattle.number.specs.declared.answer.Place.{Place}
 use Rattle.number.proofs.answer.Place.put.Goals as goal

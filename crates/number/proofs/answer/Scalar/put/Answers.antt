@@ -1,5 +1,5 @@
 -- `number::answer::Scalar::put` meets its contract: a refusal has its number, and leaves what is lent. Assumes nothing.
-use Rattle.std.proofs.Common.{ℕ, sym, ap, ◌∙◌, rules}
+use Rattle.std.proofs.Common.{ℕ, sym, ap, ◌∙◌}
 use Rattle.number.specs.Answer.{lone, put, scalar_of}
 use Rattle.number.specs.declared.answer.Scalar.{Scalar}
 use Rattle.number.proofs.answer.Scalar.put.Goals as goal

@@ -1,5 +1,5 @@
 -- `number::answer::Verdict::put` meets its contract: a refusal has its number, and leaves what is lent. Assumes nothing.
-use Rattle.std.proofs.Common.{ℕ, sym, ap, ◌∙◌, rules}
+use Rattle.std.proofs.Common.{ℕ, sym, ap, ◌∙◌}
 use Rattle.number.specs.Answer.{lone, put_verdict, verdict_of}
 use Rattle.number.specs.declared.answer.Verdict.{Verdict}
 use Rattle.number.proofs.answer.Verdict.put.Goals as goal
