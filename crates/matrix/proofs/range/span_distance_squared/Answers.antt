@@ -1,12 +1,12 @@
 -- `range::span_distance_squared` meets its contract by its two tests. Assumes nothing.
 use mathlib.Core.Path.{◌≡◌, ◌∙◌}
 use mathlib.Core.Bool.{true, false}
-use mathlib.Core.Logic.{⊎_elim}
 use lib.Ieee.{Float, lt}
 use Rattle.number.specs.Arithmetic.{◌⊖◌}
 use Rattle.matrix.specs.Constants.{positive_zero}
 use Rattle.matrix.specs.Range.{span_distance_squared, squared}
 use Rattle.matrix.proofs.Literals.{zero_bits}
+use Rattle.matrix.proofs.range.span_distance_squared.Goals.{then-p-max, else-p-max}
 use Rattle.matrix.proofs.range.span_distance_squared.Goals as goal
 
 module _ (p low high : Float) where
@@ -26,4 +26,7 @@ pub returns-then-p-min : goal.returns-then-p-min
 returns-then-p-min c = before _ _ _ c.if-p-min.true
 
 pub returns-else-p-min : goal.returns-else-p-min
-returns-else-p-min c = ⊎_elim (λ w. w.1 ∙ beyond _ _ _ c.if-p-min.false w.0.taken) (λ w. w.1 ∙ zero_bits ∙ within _ _ _ c.if-p-min.false w.0.left) c.if-p-max.branch
+returns-else-p-min c = elim c.if-p-max.branch [
+    then-p-max w ↦ w.found-is ∙ beyond _ _ _ c.if-p-min.false w.if-p-max.true
+    | else-p-max w ↦ w.found-is ∙ zero_bits ∙ within _ _ _ c.if-p-min.false w.if-p-max.false
+  ]

@@ -13,12 +13,6 @@ use Rattle.matrix.proofs.range_calls.is_empty.Goals as goal
 read : (low high least greatest : Float) (b : Bool) → low ≡ least → high ≡ greatest → lt high low ≡ b → lt greatest least ≡ b
 read low high least greatest b p q t = rw (p, q) at t
 
-not_x : (c : tie.Else2) → empty_along (range_of c.before.before.before.before.before.args.range.now) 0 ≡ false
-not_x c = read _ _ _ _ _ c.before.before.at.ensures c.before.at2.ensures c.if2.false
-
-not_y : (c : tie.Else3) → empty_along (range_of c.before.before.before.before.before.before.before.before.args.range.now) 1 ≡ false
-not_y c = read _ _ _ _ _ c.before.before.at3.ensures c.before.at4.ensures c.if3.false
-
 pub returns-then-at : goal.returns-then-at
 unfolding is_empty_call
 returns-then-at c =
@@ -27,17 +21,17 @@ returns-then-at c =
 pub returns-then-at-2 : goal.returns-then-at-2
 unfolding is_empty_call
 returns-then-at-2 c =
-    answered _ _ _ _ (eq-eqb _ _ c.if-range-ne-RANGE_LENGTH.false) (by_axes _ false true _ (not_x LOOK-PLACE x) (read _ _ _ _ _ c.at-3.ensures c.at-4.ensures c.if-at-2.true) refl)
+    answered _ _ _ _ (eq-eqb _ _ c.if-range-ne-RANGE_LENGTH.false) (by_axes _ false true _ (read _ _ _ _ _ c.at.ensures c.at-2.ensures c.if-at.false) (read _ _ _ _ _ c.at-3.ensures c.at-4.ensures c.if-at-2.true) refl)
 
 pub returns-then-at-3 : goal.returns-then-at-3
 unfolding is_empty_call
 returns-then-at-3 c =
-    answered _ _ _ _ (eq-eqb _ _ c.if-range-ne-RANGE_LENGTH.false) (by_axes _ false false _ (not_x LOOK-PLACE x) (not_y LOOK-PLACE y) (read _ _ _ _ _ c.at-5.ensures c.at-6.ensures c.if-at-3.true))
+    answered _ _ _ _ (eq-eqb _ _ c.if-range-ne-RANGE_LENGTH.false) (by_axes _ false false _ (read _ _ _ _ _ c.at.ensures c.at-2.ensures c.if-at.false) (read _ _ _ _ _ c.at-3.ensures c.at-4.ensures c.if-at-2.false) (read _ _ _ _ _ c.at-5.ensures c.at-6.ensures c.if-at-3.true))
 
 pub returns : goal.returns
 unfolding is_empty_call
 returns c =
-    answered _ _ _ _ (eq-eqb _ _ c.if-range-ne-RANGE_LENGTH.false) (by_axes _ false false _ (not_x LOOK-PLACE x) (not_y LOOK-PLACE y) (read _ _ _ _ _ c.at-5.ensures c.at-6.ensures c.if-at-3.false))
+    answered _ _ _ _ (eq-eqb _ _ c.if-range-ne-RANGE_LENGTH.false) (by_axes _ false false _ (read _ _ _ _ _ c.at.ensures c.at-2.ensures c.if-at.false) (read _ _ _ _ _ c.at-3.ensures c.at-4.ensures c.if-at-2.false) (read _ _ _ _ _ c.at-5.ensures c.at-6.ensures c.if-at-3.false))
 
 pub returns-then-range-ne-RANGE_LENGTH : goal.returns-then-range-ne-RANGE_LENGTH
 unfolding is_empty_call

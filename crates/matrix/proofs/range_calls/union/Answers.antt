@@ -16,7 +16,7 @@ pub returns-then-are_ordered : goal.returns-then-are_ordered
 unfolding union_call
 returns-then-are_ordered c =
     written _ _ _ _ _ _ (both (eq-eqb _ _ c.if-a-ne-RANGE_LENGTH.false) (eq-eqb _ _ c.if-b-ne-RANGE_LENGTH.false)) c.if-out-ne-RANGE_LENGTH.false refl c.store.ensures
-    (ap write (ap bounds (joined_in_order _ _ _ c.are_ordered.ensures c.if-are_ordered.true _ LOOK made.Joined-numbers.ensures
+    (ap write (ap bounds (joined_in_order _ _ _ c.are_ordered.ensures c.if-are_ordered.true _ c.joined_numbers.ensures
     ∙ ap₂ union c.load-first.ensures c.load-second.ensures)))
 
 pub returns : goal.returns

@@ -2,4 +2,4 @@
 use Rattle.matrix.proofs.matrix.Mat4d.cofactors0.Goals as goal
 
 pub returns : goal.returns
-returns c = rw (c.cofactors.ensures, LOOK c.before.transpose.ensures)
+returns c = rw (c.cofactors.ensures, c.transpose-columns.ensures)

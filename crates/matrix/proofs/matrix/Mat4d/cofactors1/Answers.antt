@@ -2,4 +2,4 @@
 use Rattle.matrix.proofs.matrix.Mat4d.cofactors1.Goals as goal
 
 pub returns : goal.returns
-returns c = rw (c.turned_cofactors.ensures, LOOK c.before.transpose.ensures)
+returns c = rw (c.turned_cofactors.ensures, c.transpose-columns.ensures)

@@ -6,4 +6,4 @@ use Rattle.matrix.proofs.matrix.Mat4d.product.Goals as goal
 pub returns : goal.returns
 unfolding product
 returns c =
-    same_matrix LOOK first.row-product.ensures LOOK second.row-product2.ensures LOOK third.row-product3.ensures c.row_product-4.ensures
+    same_matrix c.row_product.ensures c.row_product-2.ensures c.row_product-3.ensures c.row_product-4.ensures

@@ -4,4 +4,4 @@ use Rattle.matrix.proofs.matrix.Mat4d.scaled.Goals as goal
 
 pub returns : goal.returns
 returns c =
-    same_matrix LOOK first.scale.ensures LOOK second.scale2.ensures LOOK third.scale3.ensures c.scale-4.ensures
+    same_matrix c.scale.ensures c.scale-2.ensures c.scale-3.ensures c.scale-4.ensures

@@ -11,13 +11,13 @@ back : (a b s t u r : Range3d) → s ≡ range a.max a.min → t ≡ range b.max
 back a b s t u r p q h e = rw (e, h, p, q)
 
 pub greater-requires : goal.greater-requires
-greater-requires c = (corners_numbers _ _ (sym LOOK c.before.are-numbers.ensures ∙ LOOK c.if1.true)).0
+greater-requires c = (corners_numbers _ _ (sym c.are_numbers.ensures ∙ c.if-are_numbers.true)).0
 
 pub lesser-requires : goal.lesser-requires
-lesser-requires c = (corners_numbers _ _ (sym LOOK test.before.are-numbers.ensures ∙ LOOK test.if1.true)).1
+lesser-requires c = (corners_numbers _ _ (sym c.are_numbers.ensures ∙ c.if-are_numbers.true)).1
 
 pub returns-then-are_numbers : goal.returns-then-are_numbers
-returns-then-are_numbers c = same_range LOOK c.before.greater.ensures c.lesser.ensures
+returns-then-are_numbers c = same_range c.greater.ensures c.lesser.ensures
 
 pub returns : goal.returns
 returns c = back _ _ _ _ _ _ c.corners_swapped.ensures c.corners_swapped-2.ensures c.joined.ensures c.corners_swapped-3.ensures

@@ -3,4 +3,4 @@ use Rattle.matrix.proofs.Same.{same_range}
 use Rattle.matrix.proofs.range.Range3d.joined.Goals as goal
 
 pub returns : goal.returns
-returns c = same_range LOOK c.before.min.ensures c.max.ensures
+returns c = same_range c.min.ensures c.max.ensures

@@ -3,10 +3,10 @@ use Rattle.matrix.proofs.Same.{same_range}
 use Rattle.matrix.proofs.range.Range3d.joined_numbers.Goals as goal
 
 pub returns : goal.returns
-returns c = same_range LOOK c.before.lesser.ensures c.greater.ensures
+returns c = same_range c.lesser.ensures c.greater.ensures
 
 pub lesser-requires : goal.lesser-requires
-lesser-requires c = LOOK c.requires.0
+lesser-requires c = c.requires.0
 
 pub greater-requires : goal.greater-requires
-greater-requires c = LOOK c.before.requires.1
+greater-requires c = c.requires.1

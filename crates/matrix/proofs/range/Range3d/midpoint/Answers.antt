@@ -13,4 +13,4 @@ done : (r : Range3d) (a b m : Vec3d) → m ≡ sum a b → a ≡ multiple r.min 
 done r a b m p q s = rw (p, q, s, half_bits)
 
 pub returns : goal.returns
-returns c = done _ _ _ _ c.add.ensures LOOK c.before.before.scale.ensures c.scale-2.ensures
+returns c = done _ _ _ _ c.add.ensures c.scale.ensures c.scale-2.ensures

@@ -15,15 +15,15 @@ returns-then-is_empty c =
 
 pub returns-then-is_settled : goal.returns-then-is_settled
 returns-then-is_settled c =
-    let a = LOOK tested.before.before.args in
-    let e = product_of_rows a.left a.right _ _ _ _ LOOK r0.row-product.ensures LOOK r1.row-product2.ensures LOOK r2.row-product3.ensures c.row_product-4.ensures in
-    moves a.self (product a.left a.right) _ LOOK tested.before.is-empty.ensures _ LOOK tested.if1.false
+    let a = c.args in
+    let e = product_of_rows a.left a.right _ _ _ _ c.row_product.ensures c.row_product-2.ensures c.row_product-3.ensures c.row_product-4.ensures in
+    moves a.self (product a.left a.right) _ c.is_empty.ensures _ c.if-is_empty.false
     (found_moved a.self (product a.left a.right) _ _ _ _ c.is_settled.ensures c.if-is_settled.true (c.extract_translation.ensures ∙ ap translation e)
     (c.transformed_min.ensures ∙ ap (λ (m : Mat4d). reached lower_of a.self m) e) (c.transformed_max.ensures ∙ ap (λ (m : Mat4d). reached upper_of a.self m) e))
 
 pub returns : goal.returns
 returns c =
-    let a = LOOK tested.before.before.args in
-    let e = product_of_rows a.left a.right _ _ _ _ LOOK r0.row-product.ensures LOOK r1.row-product2.ensures LOOK r2.row-product3.ensures c.row_product-4.ensures in
-    moves a.self (product a.left a.right) _ LOOK tested.before.is-empty.ensures _ LOOK tested.if1.false
+    let a = c.args in
+    let e = product_of_rows a.left a.right _ _ _ _ c.row_product.ensures c.row_product-2.ensures c.row_product-3.ensures c.row_product-4.ensures in
+    moves a.self (product a.left a.right) _ c.is_empty.ensures _ c.if-is_empty.false
     (c.transformed_signed.ensures ∙ ap (λ (m : Mat4d). range (reached min_of a.self m) (reached max_of a.self m)) e)

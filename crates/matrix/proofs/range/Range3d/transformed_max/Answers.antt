@@ -3,4 +3,4 @@ use Rattle.matrix.proofs.range.Range3d.transformed_max.Goals as goal
 
 pub returns : goal.returns
 returns c =
-    rw (LOOK first.highest.ensures, LOOK second.highest2.ensures, c.highest-3.ensures, LOOK columns.transpose.ensures)
+    rw (c.highest.ensures, c.highest-2.ensures, c.highest-3.ensures, c.transpose-columns.ensures)

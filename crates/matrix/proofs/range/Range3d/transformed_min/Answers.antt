@@ -3,4 +3,4 @@ use Rattle.matrix.proofs.range.Range3d.transformed_min.Goals as goal
 
 pub returns : goal.returns
 returns c =
-    rw (LOOK first.lowest.ensures, LOOK second.lowest2.ensures, c.lowest-3.ensures, LOOK columns.transpose.ensures)
+    rw (c.lowest.ensures, c.lowest-2.ensures, c.lowest-3.ensures, c.transpose-columns.ensures)

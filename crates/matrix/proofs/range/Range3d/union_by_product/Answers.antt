@@ -9,7 +9,7 @@ joined_numbers-requires c = in_order_lem _ _ _ c.are_ordered.ensures c.if-are_or
 
 pub returns-then-are_ordered : goal.returns-then-are_ordered
 returns-then-are_ordered c =
-    joined_in_order _ _ _ c.are_ordered.ensures c.if-are_ordered.true _ LOOK c.Joined-numbers.ensures
+    joined_in_order _ _ _ c.are_ordered.ensures c.if-are_ordered.true _ c.joined_numbers.ensures
     ∙ ap (union c.args.self) c.transformed_by_product-moved.ensures
 
 pub returns : goal.returns
