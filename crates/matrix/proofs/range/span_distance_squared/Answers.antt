@@ -27,6 +27,6 @@ returns-then-p-min c = before _ _ _ c.if-p-min.true
 
 pub returns-else-p-min : goal.returns-else-p-min
 returns-else-p-min c = elim c.if-p-max.branch [
-    then-p-max w ↦ w.found-is ∙ beyond _ _ _ c.if-p-min.false w.if-p-max.true
-    | else-p-max w ↦ w.found-is ∙ zero_bits ∙ within _ _ _ c.if-p-min.false w.if-p-max.false
-  ]
+  | then-p-max w ↦ w.found-is ∙ beyond _ _ _ c.if-p-min.false w.if-p-max.true
+  | else-p-max w ↦ w.found-is ∙ zero_bits ∙ within _ _ _ c.if-p-min.false w.if-p-max.false
+]
