@@ -2,7 +2,6 @@
 -- the reply is that of what was found
 use mathlib.Core.Path.{◌≡◌, refl, sym, ap, ◌∙◌}
 use mathlib.Core.List.{List}
-use borrow.Author.Rules.{rules}
 use borrow.Author.Tests.{eq-eqb, ne_eqb}
 use lib.Ieee.{Float, binary64, of_bits}
 use Rattle.matrix.specs.declared.matrix.Mat4d.{Mat4d}

@@ -1,6 +1,5 @@
 -- `matrix_calls::product` meets its contract: the lengths by its tests, the result row by row. Assumes nothing.
 use mathlib.Core.Path.{refl, ap}
-use borrow.Author.Rules.{rules}
 use borrow.Author.Tests.{eq-eqb, ne_eqb}
 use Rattle.matrix.specs.Matrix.{entries}
 use Rattle.matrix.specs.MatrixCalls.{product_call}

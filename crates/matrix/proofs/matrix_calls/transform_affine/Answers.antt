@@ -1,6 +1,5 @@
 -- `matrix_calls::transform_affine` meets its contract: the lengths by its tests, the result by what it calls. Assumes nothing.
 use mathlib.Core.Path.{refl, ap, ap₂, ◌∙◌}
-use borrow.Author.Rules.{rules}
 use borrow.Author.Tests.{eq-eqb, ne_eqb}
 use Rattle.matrix.specs.Vec.{coordinates}
 use Rattle.matrix.specs.Transform.{affine}

@@ -1,6 +1,5 @@
 -- `matrix_calls::transpose` meets its contract: the lengths by its tests, the result by what it calls. Assumes nothing.
 use mathlib.Core.Path.{refl, ap, ◌∙◌}
-use borrow.Author.Rules.{rules}
 use borrow.Author.Tests.{eq-eqb, ne_eqb}
 use Rattle.matrix.specs.Matrix.{entries, transpose}
 use Rattle.matrix.specs.MatrixCalls.{transpose_call}

@@ -5,7 +5,6 @@ use mathlib.Core.Bool.{Bool, true, false}
 use borrow.Author.Tests.{eq-eqb, ne_eqb}
 use lib.Ieee.{Float, lt}
 use Rattle.number.proofs.Ways.{no_answer, answered}
-use Rattle.matrix.specs.Range.{range_of, empty_along}
 use Rattle.matrix.specs.RangeCalls.{is_empty_call}
 use Rattle.matrix.proofs.Emptiness.{by_axes}
 use Rattle.matrix.proofs.range_calls.is_empty.Goals as goal

@@ -1,6 +1,5 @@
 -- `range_calls::union` meets its contract: the lengths by its tests, the result by what it calls. Assumes nothing.
 use mathlib.Core.Path.{refl, ap, ap₂, ◌∙◌}
-use borrow.Author.Rules.{rules}
 use borrow.Author.Tests.{eq-eqb, ne_eqb}
 use Rattle.matrix.specs.Range.{bounds, union}
 use Rattle.matrix.specs.RangeCalls.{union_call}

@@ -1,7 +1,6 @@
 -- `Range3d::are_numbers` meets its contract by its tests, those along z first. Assumes nothing.
 use mathlib.Core.Path.{◌≡◌}
 use mathlib.Core.Bool.{Bool, true, false, ◌&&◌}
-use borrow.Author.Tests.{not-true, not-false}
 use Rattle.matrix.specs.declared.range.Range3d.{Range3d}
 use Rattle.matrix.specs.Steps.{numbers_along, all_numbers}
 use Rattle.matrix.proofs.range.Range3d.are_numbers.Goals as goal

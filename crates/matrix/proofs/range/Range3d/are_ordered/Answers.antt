@@ -2,7 +2,6 @@
 -- the second is not asked where the first fails
 use mathlib.Core.Path.{◌≡◌, sym, ap, ◌∙◌}
 use mathlib.Core.Bool.{Bool, true, false, ◌&&◌}
-use borrow.Author.Tests.{not-true, not-false}
 use Rattle.matrix.proofs.range.Range3d.are_ordered.Goals as goal
 
 short : (a b p : Bool) → p ≡ a → p ≡ false → false ≡ (a && b)

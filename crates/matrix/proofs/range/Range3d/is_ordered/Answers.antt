@@ -1,7 +1,6 @@
 -- `Range3d::is_ordered` meets its contract by its tests, axis after axis. Assumes nothing.
 use mathlib.Core.Path.{refl}
 use mathlib.Core.Bool.{true, false}
-use borrow.Author.Tests.{not-true, not-false}
 use Rattle.matrix.proofs.Ordered.{ordered_by_axes}
 use Rattle.matrix.proofs.range.Range3d.is_ordered.Goals as goal
 

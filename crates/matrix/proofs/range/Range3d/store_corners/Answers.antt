@@ -1,7 +1,6 @@
 -- `Range3d::store_corners` meets its contract: the two parts stored are the numbers of the corners. Assumes nothing.
 use mathlib.Core.Path.{◌≡◌, refl, sym, ap, ◌∙◌}
 use mathlib.Core.List.{List, [], ◌∷◌, ◌++◌}
-use borrow.Author.Rules.{rules}
 use Prim.Native.Nat.{◌+◌}
 use lib.ListN.{length}
 use lib.Ieee.{Float}

@@ -1,6 +1,5 @@
 -- `Vec3d::load_at` meets its contract: number by number by that of `at`. Assumes nothing.
 use mathlib.Core.Path.{◌∙◌}
-use borrow.Author.Rules.{rules}
 use Rattle.matrix.proofs.Same.{same_vec3, first}
 use Rattle.matrix.proofs.vec.Vec3d.load_at.Goals as goal
 

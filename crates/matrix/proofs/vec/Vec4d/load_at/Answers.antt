@@ -1,6 +1,5 @@
 -- `Vec4d::load_at` meets its contract: number by number by that of `at`. Assumes nothing.
 use mathlib.Core.Path.{◌∙◌}
-use borrow.Author.Rules.{rules}
 use Rattle.matrix.proofs.Same.{same_vec4, first}
 use Rattle.matrix.proofs.vec.Vec4d.load_at.Goals as goal
 
