@@ -21,12 +21,14 @@ at_most k l t = go (ltb k l) (eqb k l) (ltb→lt k l) (eqb→eq k l) t
     go : (x y : Bool) → (T x → k < l) → (T y → k ≡ l) → T (x || y && true) → k ≤ l
     go true y f g t = omega (arith, f tt)
     go false true f g t = omega (arith, g tt)
+    go false false f g t = elim t [ ]
 
 not_below : (k l : ℕ) → 0 < k → T (below false k true l || level false k true l) → ⊥
 not_below k l h t = go (eqb k 0) (eqb→eq k 0) (and_r (eqb k l) (eqb k 0) t)
   where
     go : (y : Bool) → (T y → k ≡ 0) → T y → ⊥
     go true g t = omega (arith, g tt)
+    go false g t = elim t [ ]
 
 -- from (k / i) ≤ (l / j), where k / i is a, to a ≤ l / j; and the other way round
 from_below : (k a i l j : ℕ) → 0 < i → k * 1 ≡ a * i → k * j ≤ l * i → a * j ≤ l
@@ -38,6 +40,10 @@ from_above k b i l j h e t = le_of_mul-le-mul_right {k = i} (omega (arith, ap (�
 pub between : (a b : ℕ) (y z x : Float) → 0 < a → HasValue y false a 1 → HasValue z false b 1 → T (le y x) → T (le x z) → Between a b x
 unfolding le lt eq
 between a b (fin true k d) z x h v w t u = absurd (true≢false v.0)
+between a b nan z x h v w t u = elim v [ ]
+between a b (inf _) z x h v w t u = elim v [ ]
+between a b (fin false k d) nan x h v w t u = elim w [ ]
+between a b (fin false k d) (inf _) x h v w t u = elim w [ ]
 between a b (fin false k d) (fin true l g) x h v w t u = absurd (true≢false w.0)
 between a b (fin false k d) (fin false l g) nan h v w t u = absurd t
 between a b (fin false k d) (fin false l g) (inf true) h v w t u = absurd t
@@ -59,10 +65,15 @@ level_to s k l h t = go s (eqb l k) (eqb l 0) (eqb→eq l k) (eqb→eq l 0) t
     go : (s y z : Bool) → (T y → l ≡ k) → (T z → l ≡ 0) → T (y && (beq s false || z)) → (s ≡ false) × (l ≡ k)
     go false true z f g t = (refl, f tt)
     go true true true f g t = absurd (omega (arith, f tt, g tt))
+    go false false z f g t = elim t [ ]
+    go true false z f g t = elim t [ ]
+    go true true false f g t = elim t [ ]
 
 pub equal : (n : ℕ) (y x : Float) → 0 < n → HasValue y false n 1 → T (eq x y) → Between n n x
 unfolding eq
 equal n (fin true k d) x h v t = absurd (true≢false v.0)
+equal n nan x h v t = elim v [ ]
+equal n (inf _) x h v t = elim v [ ]
 equal n (fin false k d) nan h v t = absurd t
 equal n (fin false k d) (inf s) h v t = absurd t
 equal n (fin false k d) (fin s m e) h v t =
@@ -87,6 +98,10 @@ at_most_is k l h = go (ltb k l) (eqb k l) (lt→ltb k l) (λ e. eq→eqb e) (eq-
 pub above : (a n b : ℕ) (y x : Float) → a ≤ n → HasValue y false a 1 → Between n b x → T (le y x)
 unfolding le lt eq
 above a n b (fin true k d) x h v w = absurd (true≢false v.0)
+above a n b nan x h v w = elim v [ ]
+above a n b (inf _) x h v w = elim v [ ]
+above a n b (fin false k d) nan h v w = elim w [ ]
+above a n b (fin false k d) (inf _) h v w = elim w [ ]
 above a n b (fin false k d) (fin true m e) h v w = absurd (true≢false w.0)
 above a n b (fin false k d) (fin false m e) h v w =
     at_most_is (k * up d * down e) (m * up e * down d)
@@ -95,6 +110,12 @@ above a n b (fin false k d) (fin false m e) h v w =
 pub under : (a n b : ℕ) (y x : Float) → n ≤ b → HasValue y false b 1 → Between a n x → T (le x y)
 unfolding le lt eq
 under a n b (fin true k d) (fin true m e) h v w = absurd (true≢false v.0)
+under a n b nan _ h v w = elim v [ ]
+under a n b (inf _) _ h v w = elim v [ ]
+under a n b (fin false k d) nan h v w = elim w [ ]
+under a n b (fin false k d) (inf _) h v w = elim w [ ]
+under a n b (fin true k d) nan h v w = elim w [ ]
+under a n b (fin true k d) (inf _) h v w = elim w [ ]
 under a n b (fin true k d) (fin false m e) h v w = absurd (true≢false v.0)
 under a n b (fin false k d) (fin true m e) h v w = absurd (true≢false w.0)
 under a n b (fin false k d) (fin false m e) h v w =
@@ -107,6 +128,8 @@ module _ (a b : ℕ) (room : b < 2 ^ 64) where
   pub whole_part_lem : (x : Float) → Between a b x → (a ≤ whole_part x) × (whole_part x ≤ b)
   unfolding to_unsigned
   whole_part_lem (fin true m e) h = absurd (true≢false h.0)
+  whole_part_lem nan h = elim h [ ]
+  whole_part_lem (inf _) h = elim h [ ]
   whole_part_lem (fin false m e) h =
       let q = m * up e / down e in
       let l : a ≤ q = (le-div_iff_mul-le (down_pos e)).1 h.1 in
@@ -117,6 +140,8 @@ module _ (a b : ℕ) (room : b < 2 ^ 64) where
   pub in_range : (x : Float) → Between a b x → T (lt (fin true 1 (pos 0)) x) × T (lt x (fin false 1 (pos 64)))
   unfolding lt
   in_range (fin true m e) h = absurd (true≢false h.0)
+  in_range nan h = elim h [ ]
+  in_range (inf _) h = elim h [ ]
   in_range (fin false m e) h = (
     lt→ltb 0 (1 * 2 ^ 0 * down e + m * up e * 1) (omega (arith, down_pos e)),
     lt→ltb (m * up e * 1) (1 * 2 ^ 64 * down e) (omega (arith, h.2, mul-lt-mul_of_pos_right room (down_pos e))),

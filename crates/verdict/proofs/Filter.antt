@@ -59,7 +59,7 @@ module _ (x y z w : Float) (r : Range3d) (he : Fits (record { x = x; y = y; z = 
 
   -- all is finite
   size_finite : T (finite size)
-  size_finite = between_finite least_size size most_size figures.least-finite figures.most-finite (lt_le least_size size tests.3) (lt_le size most_size tests.4)
+  size_finite = between_finite least_size size most_size figures.least_finite figures.most_finite (lt_le least_size size tests.3) (lt_le size most_size tests.4)
 
   parts_finite : T (finite (extent_of r ⊗ (rounded 3 1 ⊕ q))) × T (finite (abs_of w))
   parts_finite = add_finite_both (extent_of r ⊗ (rounded 3 1 ⊕ q)) (abs_of w) size_finite
@@ -112,7 +112,7 @@ module _ (x y z w : Float) (r : Range3d) (he : Fits (record { x = x; y = y; z = 
   square = sum_like two.is sz.is square_finite
 
   factor : Rounded (rounded 3 1 ⊕ q) false 1 (3 * unit + square.units) 1
-  factor = sum_like figures.three-is square.is factors_finite.1
+  factor = sum_like figures.three_is square.is factors_finite.1
 
   scaled : Rounded (extent_of r ⊗ (rounded 3 1 ⊕ q)) false unit (γ * factor.units) unit
   scaled = product_like ends.is factor.is parts_finite.0
@@ -124,24 +124,24 @@ module _ (x y z w : Float) (r : Range3d) (he : Fits (record { x = x; y = y; z = 
   α = total.units
 
   total_most : α ≤ 2 ^ 300 * unit
-  total_most = under most_size total.is figures.most-is tests.4 figures.most-most
+  total_most = under most_size total.is figures.most_is tests.4 figures.most_most
 
   total_least : 2 ^ 774 ≤ α
-  total_least = over least_size figures.least-is total.is figures.least-least tests.3
+  total_least = over least_size figures.least_is total.is figures.least_least tests.3
 
   error : Rounded (error_of size) false unit (α * part_units) unit
-  error = product total.is figures.part-is (room_for (2 ^ 300) 1 α part_units total_most (le_trans figures.part-most (omega arith)) figures.error-room)
+  error = product total.is figures.part_is (room_for (2 ^ 300) 1 α part_units total_most (le_trans figures.part_most (omega arith)) figures.error_room)
 
   abbrev μ : ℕ
   μ = error.units
 
   extent_most : γ ≤ far * unit
-  extent_most = under long ends.is figures.far-is tests.0 figures.long-most
+  extent_most = under long ends.is figures.far_is tests.0 figures.long_most
 
   square_bounds : (g : ℕ) → Is q false g → (2 ^ 1012 ≤ g) × (g ≤ far * far * unit)
   square_bounds g h = (
-    over (short ⊗ short) figures.short-square-is h figures.short-square-least tests.1,
-    under (long ⊗ long) h figures.far-square-is tests.2 figures.long-square-most,
+    over (short ⊗ short) figures.short_square_is h figures.short_square_least tests.1,
+    under (long ⊗ long) h figures.far_square_is tests.2 figures.long_square_most,
   )
 
   abbrev s : ℕ
@@ -155,7 +155,7 @@ module _ (x y z w : Float) (r : Range3d) (he : Fits (record { x = x; y = y; z = 
   bounds : Sizes unit s γ nw.size α μ (far * far)
   bounds =
       sizes unit s square.units factor.units γ scaled.units nw.size α part_units μ far (far * far) unit_positive three_most (least_of_lem _ _ 1 factor.near) (least_of_lem _ _ unit scaled.near)
-      (least_of_lem _ _ 1 total.near) (least_of_lem _ _ unit error.near) (most_of _ _ unit error.near) (square_bounds square.units square.is).1 extent_most figures.part-least figures.part-most (le_trans figures.least_size total_least)
+      (least_of_lem _ _ 1 total.near) (least_of_lem _ _ unit error.near) (most_of _ _ unit error.near) (square_bounds square.units square.is).1 extent_most figures.part_least figures.part_most (le_trans figures.least_size_lem total_least)
 
   -- ---- the length
 
@@ -169,13 +169,13 @@ module _ (x y z w : Float) (r : Range3d) (he : Fits (record { x = x; y = y; z = 
   l = root.root
 
   root_over : 2 ^ 1043 ≤ l
-  root_over = root.over (down_to 30) (2 ^ 1043) (unfold fits in tt) figures.min-length-is (le_trans figures.root-least (mul-le-mul_right unit (square_bounds root.square root.is).0))
+  root_over = root.over (down_to 30) (2 ^ 1043) (unfold fits in tt) figures.min_length_is (le_trans figures.root_least (mul-le-mul_right unit (square_bounds root.square root.is).0))
 
   unit_most : unit ≤ 2 ^ 31 * l
-  unit_most = le_trans figures.length-least (mul-le-mul_left (2 ^ 31) root_over)
+  unit_most = le_trans figures.length_least (mul-le-mul_left (2 ^ 31) root_over)
 
   length_most : l ≤ far * unit
-  length_most = root.under (up_to 60) (far * unit) (unfold fits in tt) figures.far-is (go unit root.square (square_bounds root.square root.is).1)
+  length_most = root.under (up_to 60) (far * unit) (unfold fits in tt) figures.far_is (go unit root.square (square_bounds root.square root.is).1)
     where
       go : (u g : ℕ) → g ≤ far * far * u → g * u ≤ far * u * (far * u)
       go u g h = omega (arith, mul-le-mul_right u h)
@@ -184,14 +184,14 @@ module _ (x y z w : Float) (r : Range3d) (he : Fits (record { x = x; y = y; z = 
   length_some = le_trans (lit≤ tt) root_over
 
   least_length : T (le min_length L)
-  least_length = le_through min_length (down_to 30) L figures.min-length-most (at_most figures.min-length-is root.root_is root_over)
+  least_length = le_through min_length (down_to 30) L figures.min_length_most (at_most figures.min_length_is root.root_is root_over)
 
   -- one over it
   abbrev k : Float
   k = one ⊘ L
 
   over_length : Rounded k false l (unit * unit) l
-  over_length = quotient figures.one-is root.root_is length_some (le_trans unit_most (mul-le-mul_right l figures.over-room))
+  over_length = quotient figures.one_is root.root_is length_some (le_trans unit_most (mul-le-mul_right l figures.over_room))
 
   -- ---- the measure of the errors
 
@@ -199,10 +199,10 @@ module _ (x y z w : Float) (r : Range3d) (he : Fits (record { x = x; y = y; z = 
   ε = (parts μ).0
 
   error_over : (c : ℕ) → 2 ^ 39 * c ≤ 2 ^ 774 → c ≤ μ
-  error_over c h = le_of_mul-le-mul_left {k = 2 ^ 39} (le_trans h (le_trans total_least bounds.error-least)) (lit≤ tt)
+  error_over c h = le_of_mul-le-mul_left {k = 2 ^ 39} (le_trans h (le_trans total_least bounds.error_least)) (lit≤ tt)
 
   slack : 8 * ((Normal + 1) * (End + 1)) * l ≤ ε
-  slack = go unit ε (error_over (1024 * ((Normal + 1) * (End + 1)) * far) figures.error-size) (parts μ).1 length_most
+  slack = go unit ε (error_over (1024 * ((Normal + 1) * (End + 1)) * far) figures.error_size) (parts μ).1 length_most
     where
       go : (u ε : ℕ) → 1024 * ((Normal + 1) * (End + 1)) * far ≤ μ → 128 * ε ≡ μ * u → l ≤ far * u → 8 * ((Normal + 1) * (End + 1)) * l ≤ ε
       go u ε h e k = omega (arith, mul-le-mul_right u h, e, mul-le-mul_left ((Normal + 1) * (End + 1)) k)
@@ -220,7 +220,7 @@ module _ (x y z w : Float) (r : Range3d) (he : Fits (record { x = x; y = y; z = 
   exact_most = omega (arith, bounds.held, (parts μ).1)
 
   error_most : μ ≤ 3 * 2 ^ 300 * unit
-  error_most = go unit (2 ^ 300) bounds.error-most total_most
+  error_most = go unit (2 ^ 300) bounds.error_most total_most
     where
       go : (u c : ℕ) → μ ≤ 3 * α → α ≤ c * u → μ ≤ 3 * c * u
       go u c h k = omega (arith, h, k)
@@ -235,16 +235,16 @@ module _ (x y z w : Float) (r : Range3d) (he : Fits (record { x = x; y = y; z = 
 
   along : (n low high : Float) (N : Units n) → N.size ≤ s → Within ext low → Within ext high → Axis l ε (N.size * ext) (n ⊗ k ⊗ end_toward (n ⊗ k) low high) (n ⊗ end_toward n low high)
   along n low high N h a b =
-      axis l ε ext k over_length unit_most length_some end_most slack unit_error n N (le_trans h bounds.normal-most) (le_trans (mul-le-mul_right ext h) (le_trans (omega arith) exact_most)) low high a b
+      axis l ε ext k over_length unit_most length_some end_most slack unit_error n N (le_trans h bounds.normal_most) (le_trans (mul-le-mul_right ext h) (le_trans (omega arith) exact_most)) low high a b
 
   tx : Axis l ε (nx.size * ext) (x ⊗ k ⊗ end_toward (x ⊗ k) r.min.x r.max.x) (x ⊗ end_toward x r.min.x r.max.x)
-  tx = along x r.min.x r.max.x nx (omega arith) ends.min-x ends.max-x
+  tx = along x r.min.x r.max.x nx (omega arith) ends.min_x ends.max_x
 
   ty : Axis l ε (ny.size * ext) (y ⊗ k ⊗ end_toward (y ⊗ k) r.min.y r.max.y) (y ⊗ end_toward y r.min.y r.max.y)
-  ty = along y r.min.y r.max.y ny (omega arith) ends.min-y ends.max-y
+  ty = along y r.min.y r.max.y ny (omega arith) ends.min_y ends.max_y
 
   tz : Axis l ε (nz.size * ext) (z ⊗ k ⊗ end_toward (z ⊗ k) r.min.z r.max.z) (z ⊗ end_toward z r.min.z r.max.z)
-  tz = along z r.min.z r.max.z nz (omega arith) ends.min-z ends.max-z
+  tz = along z r.min.z r.max.z nz (omega arith) ends.min_z ends.max_z
 
   -- ---- the sums
 
@@ -268,10 +268,10 @@ module _ (x y z w : Float) (r : Range3d) (he : Fits (record { x = x; y = y; z = 
       omega (arith, both_sides tx.sign tx.exact, both_sides ty.sign ty.exact, both_sides tz.sign tz.exact, both_sides nw.sign o, tx.most, ty.most, tz.most, exact_most)
 
   by_length : Scale l ε
-  by_length = record { some = length_some; few = length_error; held = rooms unit ε μ l (2 ^ 31) (3 * 2 ^ 300) room (parts μ).1 error_most unit_most figures.length-room }
+  by_length = record { some = length_some; few = length_error; held = rooms unit ε μ l (2 ^ 31) (3 * 2 ^ 300) room (parts μ).1 error_most unit_most figures.length_room }
 
   by_unit : Scale unit ε
-  by_unit = record { some = unit_positive; few = unit_error; held = rooms unit ε μ unit 1 (3 * 2 ^ 300) room (parts μ).1 error_most (omega arith) figures.unit-room }
+  by_unit = record { some = unit_positive; few = unit_error; held = rooms unit ε μ unit 1 (3 * 2 ^ 300) room (parts μ).1 error_most (omega arith) figures.unit_room }
 
   -- the reach, times the length
   abbrev R : Float
@@ -304,7 +304,7 @@ module _ (x y z w : Float) (r : Range3d) (he : Fits (record { x = x; y = y; z = 
       go u c n h k g i = omega (arith, h, k, mul-le-mul_right (3 * c) g, mul-le-mul_right l i)
 
       last_most : nw.size ≤ room * l
-      last_most = go unit (2 ^ 300) nw.size bounds.last-most total_most unit_most figures.last-room
+      last_most = go unit (2 ^ 300) nw.size bounds.last_most total_most unit_most figures.last_room
 
   -- ---- what is told
 

@@ -66,7 +66,7 @@ module _ (l ε ext : ℕ) (k : Float) (K : Rounded k false l (unit * unit) l) (U
   over_size = quotient_size unit l K.units unit_positive L (most_of (K.units * l) (unit * unit) l K.near) UL
 
   scaled : Rounded (n ⊗ k) (unlike N.sign false) unit (a * K.units) unit
-  scaled = product N.is K.is (room_for Normal (2 ^ 33) a K.units AU over_size figures.scaled-room)
+  scaled = product N.is K.is (room_for Normal (2 ^ 33) a K.units AU over_size figures.scaled_room)
 
   abbrev v : ℕ
   v = scaled.units
@@ -101,10 +101,10 @@ module _ (l ε ext : ℕ) (k : Float) (K : Rounded k false l (unit * unit) l) (U
     exact_most = le_trans (mul-le-mul_left a C.most) T
 
     made : Rounded (n ⊗ k ⊗ c) (unlike N.sign C.number.sign) unit (v * d) unit
-    made = product scaled_is C.number.is (room_for (2 * (Normal * 2 ^ 33) + 1) End v d scaled_size near_end figures.made-room)
+    made = product scaled_is C.number.is (room_for (2 * (Normal * 2 ^ 33) + 1) End v d scaled_size near_end figures.made_room)
 
     estimated : About unit ε (n ⊗ c) (over_zero (unlike N.sign C.number.sign) (a * d)) (under_zero (unlike N.sign C.number.sign) (a * d)) 2
-    estimated = rounded_about (product N.is C.number.is (room_for Normal End a d AU near_end figures.estimate-room)) exact_most UE
+    estimated = rounded_about (product N.is C.number.is (room_for Normal End a d AU near_end figures.estimate_room)) exact_most UE
 
     same : Axis l ε (a * ext) (n ⊗ k ⊗ c) (n ⊗ c)
     same =

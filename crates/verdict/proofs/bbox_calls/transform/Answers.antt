@@ -1,5 +1,5 @@
 -- `bbox_calls::transform` meets its contract: the lengths and the flag by its tests, the result by what it calls. Assumes nothing.
-use Rattle.std.proofs.Common.{refl, ap, ◌∙◌, ap₂, rules, eq-eqb, ne_eqb}
+use Rattle.std.proofs.Common.{not, refl, ap, ◌∙◌, ap₂, rules, eq-eqb, ne_eqb}
 use Rattle.number.specs.Answer.{write}
 use Rattle.number.proofs.Ways.{both, stops, passes, no_input, no_room, left, written}
 use Rattle.verdict.specs.BBox.{numbers, transformed_box}
@@ -11,7 +11,7 @@ pub returns-then-not-is_flag : goal.returns-then-not-is_flag
 unfolding transform_box_call
 returns-then-not-is_flag c =
     let b = c.args.b.now in
-    stops _ _ _ (no_flag b _ _ c.at.ensures c.is_flag.ensures c.if-not-is_flag.true)
+    stops _ _ _ (no_flag b _ _ c.at.ensures c.is_flag.ensures (ap not c.if-not-is_flag.true))
     ∙ left _ _ _ _ (both (eq-eqb _ _ c.if-b-ne-BOX_LENGTH.false) (eq-eqb _ _ c.if-m-ne-MATRIX_LENGTH.false)) c.if-out-ne-BOX_LENGTH.false
 
 pub returns : goal.returns
@@ -19,7 +19,7 @@ unfolding transform_box_call
 returns c =
     let b = c.args.b.now in
     written _ _ _ _ _ _ (both (eq-eqb _ _ c.if-b-ne-BOX_LENGTH.false) (eq-eqb _ _ c.if-m-ne-MATRIX_LENGTH.false)) c.if-out-ne-BOX_LENGTH.false refl c.store.ensures
-    (passes _ _ _ _ (is_flag_lem b _ _ c.at.ensures c.is_flag.ensures c.if-not-is_flag.false) (ap write (ap numbers (c.transform.ensures ∙ ap₂ transformed_box c.load.ensures c.load-2.ensures))))
+    (passes _ _ _ _ (is_flag_lem b _ _ c.at.ensures c.is_flag.ensures (ap not c.if-not-is_flag.false)) (ap write (ap numbers (c.transform.ensures ∙ ap₂ transformed_box c.load.ensures c.load-2.ensures))))
 
 pub returns-then-b-ne-BOX_LENGTH : goal.returns-then-b-ne-BOX_LENGTH
 unfolding transform_box_call

@@ -13,5 +13,5 @@ joined a b r s u m p q e = rw (e, p, q)
 
 pub returns : goal.returns
 returns c =
-    let a = LOOK c.before.before.before.args in
-    rw (zero_bits, one_bits) (joined a.self a.other _ _ _ _ LOOK c.before.before.transformed-seldom.ensures c.transformed_seldom-2.ensures c.union.ensures)
+    let a = c.args in
+    rw (zero_bits, one_bits) (joined a.self a.other _ _ _ _ c.transformed_seldom.ensures c.transformed_seldom-2.ensures c.union.ensures)

@@ -4,4 +4,4 @@ use Rattle.matrix.specs.Transform.{transformed}
 use Rattle.verdict.proofs.bbox.BBox3d.centroid.Goals as goal
 
 pub returns : goal.returns
-returns c = c.transform.ensures ∙ ap (transformed LOOK c.before.before.args.self.matrix) c.midpoint.ensures
+returns c = c.transform.ensures ∙ ap (transformed c.args.self.matrix) c.midpoint.ensures

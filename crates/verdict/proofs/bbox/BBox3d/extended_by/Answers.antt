@@ -15,5 +15,5 @@ grown a b inverse u e = rw e
 
 pub returns : goal.returns
 returns c =
-    let a = LOOK c.before.before.args in
+    let a = c.args in
     grown a.self a.other a.inverse _ c.union_by_product-range.ensures

@@ -7,8 +7,8 @@ returns-then-is_empty c = held_second _ _ _ c.is_empty.ensures c.if-is_empty.tru
 
 pub returns-then-is_empty-2 : goal.returns-then-is_empty-2
 returns-then-is_empty-2 c =
-    held_first _ _ _ LOOK at_test.before.is-empty.ensures _ c.is_empty-2.ensures LOOK at_test.if1.false c.if-is_empty-2.true
+    held_first _ _ _ c.is_empty.ensures _ c.is_empty-2.ensures c.if-is_empty.false c.if-is_empty-2.true
 
 pub returns : goal.returns
 returns c =
-    held_merged _ _ _ LOOK at_test.before.is-empty.ensures _ c.is_empty-2.ensures LOOK at_test.if1.false _ c.if-is_empty-2.false c.merged.ensures
+    held_merged _ _ _ c.is_empty.ensures _ c.is_empty-2.ensures c.if-is_empty.false _ c.if-is_empty-2.false c.merged.ensures

@@ -15,5 +15,5 @@ by_flag Singular = refl
 
 pub returns : goal.returns
 returns c =
-    let m = LOOK c.before.args.self.matrix in
+    let m = c.args.self.matrix in
     ap not (c.has_inverse_above.ensures ∙ ap (λ (e : Float). has_inverse (inverse_above e m)) box_epsilon_bits ∙ by_flag (inverse_above box_epsilon m))

@@ -4,16 +4,16 @@ use Rattle.verdict.proofs.bbox.BBox3d.merged.Goals as goal
 
 pub returns-then-into_other : goal.returns-then-into_other
 returns-then-into_other c =
-    merged_smaller _ _ _ _ LOOK known.before.inverse.ensures LOOK known.inverse2.ensures _ _ _ LOOK given.if1.true LOOK test.if2.true
-    LOOK first.extended-by.ensures c.extended_by.ensures c.smaller.ensures
+    merged_smaller _ _ _ _ c.inverse-into_self.ensures c.inverse-into_other.ensures _ _ _ c.if-into_self.true c.if-into_other.true
+    c.extended_by-first.ensures c.extended_by.ensures c.smaller.ensures
 
 pub returns-then-into_self : goal.returns-then-into_self
 returns-then-into_self c =
-    merged_first _ _ _ _ LOOK known.before.inverse.ensures LOOK known.inverse2.ensures _ LOOK given.if1.true c.if-into_other.false c.extended_by-first.ensures
+    merged_first _ _ _ _ c.inverse-into_self.ensures c.inverse-into_other.ensures _ c.if-into_self.true c.if-into_other.false c.extended_by-first.ensures
 
 pub returns-then-into_other-2 : goal.returns-then-into_other-2
 returns-then-into_other-2 c =
-    merged_second _ _ _ _ LOOK known.before.inverse.ensures LOOK known.inverse2.ensures _ LOOK given.if1.false LOOK test.if3.true c.extended_by-then-into_other-2.ensures
+    merged_second _ _ _ _ c.inverse-into_self.ensures c.inverse-into_other.ensures _ c.if-into_self.false c.if-into_other-2.true c.extended_by-then-into_other-2.ensures
 
 pub returns : goal.returns
 returns c =

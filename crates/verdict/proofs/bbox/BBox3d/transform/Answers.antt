@@ -5,4 +5,4 @@ use Rattle.verdict.specs.BBox.{box}
 use Rattle.verdict.proofs.bbox.BBox3d.transform.Goals as goal
 
 pub returns : goal.returns
-returns c = let b = LOOK c.before.before.args.self in ap (λ (m : Mat4d). box b.range m b.flag) c.product.ensures
+returns c = let b = c.args.self in ap (λ (m : Mat4d). box b.range m b.flag) c.product.ensures

@@ -27,12 +27,12 @@ module _ (b : BBox3d) (e : Bool) (p : e ≡ is_empty b.range) where
       (f ∙ ap (λ (e : Float). abs_of (e ⊗ s.x ⊗ s.y ⊗ s.z)) r ∙ ap (λ (u : Vec3d). abs_of (determinant3 b.matrix ⊗ u.x ⊗ u.y ⊗ u.z)) q)
 
 pub returns-then-is_empty : goal.returns-then-is_empty
-returns-then-is_empty c = none LOOK c.before.before.args.self _ c.is_empty.ensures c.if-is_empty.true
+returns-then-is_empty c = none c.args.self _ c.is_empty.ensures c.if-is_empty.true
 
 pub returns-then-volume : goal.returns-then-volume
 returns-then-volume c =
-    some LOOK e.before.before.args.self _ LOOK e.before.is-empty.ensures _ _ _ LOOK e.if1.false LOOK d.before.size.ensures c.determinant3.ensures (no_size _ (is_nan_lem _ c.if-volume.true))
+    some c.args.self _ c.is_empty.ensures _ _ _ c.if-is_empty.false c.size-size.ensures c.determinant3.ensures (no_size _ (is_nan_lem _ c.if-volume.true))
 
 pub returns : goal.returns
 returns c =
-    some LOOK e.before.before.args.self _ LOOK e.before.is-empty.ensures _ _ _ LOOK e.if1.false LOOK d.before.size.ensures c.determinant3.ensures c.abs.ensures
+    some c.args.self _ c.is_empty.ensures _ _ _ c.if-is_empty.false c.size-size.ensures c.determinant3.ensures c.abs.ensures

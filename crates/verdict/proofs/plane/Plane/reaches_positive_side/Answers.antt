@@ -24,5 +24,5 @@ returns-then-is_empty c = none _ _ _ c.is_empty.ensures c.if-is_empty.true
 
 pub returns : goal.returns
 returns c =
-    some _ _ _ LOOK tested.before.is-empty.ensures _ _ LOOK tested.if1.false c.dot.ensures
-    (same_vec3 LOOK first.end-toward.ensures LOOK second.end-toward2.ensures LOOK third.end-toward3.ensures)
+    some _ _ _ c.is_empty.ensures _ _ c.if-is_empty.false c.dot.ensures
+    (same_vec3 c.end_toward.ensures c.end_toward-2.ensures c.end_toward-3.ensures)

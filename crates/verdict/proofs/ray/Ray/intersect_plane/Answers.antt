@@ -40,12 +40,12 @@ returns-then-abs c = beside _ _ _ _ c.dot-facing.ensures c.abs.ensures c.if-abs.
 
 pub returns-then-distance : goal.returns-then-distance
 returns-then-distance c =
-    ahead _ _ _ _ LOOK tested.before.before.dot.ensures LOOK tested.before.abs.ensures _ _ _ LOOK scaled.scale.ensures LOOK moved.sub.ensures
+    ahead _ _ _ _ c.dot-facing.ensures c.abs.ensures _ _ _ c.scale-on_plane.ensures c.sub.ensures
     c.dot.ensures
-    LOOK tested.if1.false c.if-distance.true
+    c.if-abs.false c.if-distance.true
 
 pub returns : goal.returns
 returns c =
-    behind _ _ _ _ LOOK tested.before.before.dot.ensures LOOK tested.before.abs.ensures _ _ _ LOOK scaled.scale.ensures LOOK moved.sub.ensures
+    behind _ _ _ _ c.dot-facing.ensures c.abs.ensures _ _ _ c.scale-on_plane.ensures c.sub.ensures
     c.dot.ensures
-    LOOK tested.if1.false c.if-distance.false
+    c.if-abs.false c.if-distance.false

@@ -4,4 +4,4 @@ use Rattle.verdict.specs.Ray.{ray}
 use Rattle.verdict.proofs.ray.Ray.transformed.Goals as goal
 
 pub returns : goal.returns
-returns c = ap₂ ray LOOK c.before.transform.ensures c.transform_dir.ensures
+returns c = ap₂ ray c.transform.ensures c.transform_dir.ensures

@@ -45,5 +45,5 @@ returns-in_default c = missed _ _ _ c.intersect_plane.ensures c.in_default.is
 
 pub returns : goal.returns
 returns c =
-    met _ _ _ LOOK opened.before.before.intersect-plane.ensures _ _ _ _ _ _ _ _ LOOK opened.distance.given.1 LOOK placed.point.ensures LOOK moved.sub.ensures
-    LOOK flat.projected.ensures LOOK second.beta.ensures c.alpha-alpha.ensures c.gamma-gamma.ensures
+    met _ _ _ c.intersect_plane.ensures _ _ _ _ _ _ _ _ c.in-At.is c.point.ensures c.sub.ensures
+    c.projected-met.ensures c.beta-beta.ensures c.alpha-alpha.ensures c.gamma-gamma.ensures

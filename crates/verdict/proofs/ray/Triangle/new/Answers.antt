@@ -17,5 +17,5 @@ made p0 p1 p2 p a s1 s2 d1 d2 e i k1 l1 k2 l2 = rw (l1, k1, l2, k2, i, e)
 
 pub returns : goal.returns
 returns c =
-    made _ _ _ _ _ _ _ _ _ LOOK axis.before.from-points.ensures c.faced-axis.ensures c.sub.ensures c.projected.ensures
+    made _ _ _ _ _ _ _ _ _ c.from_points-plane.ensures c.faced-axis.ensures c.sub.ensures c.projected.ensures
     c.sub-2.ensures c.projected-2.ensures
