@@ -17,6 +17,11 @@ truncating_f64_to_u64-count-requires c =
     let r = in_range fewest_planes most_planes (omega arith) x (within x (ap not c.if-not-x.false) (ap not c.if-not-x-2.false)) in
     record { lower_bound = r.0; upper_bound = r.1 }
 
+pub overflow_cast-count : goal.overflow_cast-count
+overflow_cast-count c =
+    let x = c.args.x in
+    omega (arith, c.truncating_f64_to_u64-count.ensures, whole_part_lem fewest_planes most_planes (omega arith) x (within x (ap not c.if-not-x.false) (ap not c.if-not-x-2.false)))
+
 pub returns-then-x-count : goal.returns-then-x-count
 returns-then-x-count c =
     not_whole c.args.x (ap not c.if-not-x.false) (ap not c.if-not-x-2.false) _ c.truncating_f64_to_u64-count.ensures c.if-x-count.true
