@@ -1,5 +1,5 @@
 -- `bbox_calls::volume` meets its contract: the length and the flag by its tests, the result by what it calls. Assumes nothing.
-use Rattle.std.proofs.Common.{not, ap, ◌∙◌, rules, eq-eqb, ne_eqb}
+use Rattle.std.proofs.Common.{not, ap, ◌∙◌, eq-eqb, ne_eqb}
 use Rattle.number.specs.Answer.{outcome}
 use Rattle.number.proofs.Ways.{stops, passes}
 use Rattle.verdict.specs.BBox.{volume}

@@ -1,5 +1,5 @@
 -- `plane_calls::from_points` meets its contract: the lengths by its tests, the result by what it calls. Assumes nothing.
-use Rattle.std.proofs.Common.{refl, ap, ◌∙◌, rules, eq-eqb, ne_eqb}
+use Rattle.std.proofs.Common.{refl, ap, ◌∙◌, eq-eqb, ne_eqb}
 use Rattle.number.specs.Answer.{write}
 use Rattle.verdict.specs.declared.plane.Plane.{Plane}
 use Rattle.verdict.specs.Plane.{numbers, from_points}

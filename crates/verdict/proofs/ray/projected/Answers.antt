@@ -1,5 +1,5 @@
 -- `ray::projected` meets its contract by the cases of the axis. Assumes nothing.
-use Rattle.std.proofs.Common.{◌≡◌, sym, ap, rules}
+use Rattle.std.proofs.Common.{◌≡◌, sym, ap}
 use Rattle.matrix.specs.declared.vec.Vec3d.{Vec3d}
 use Rattle.verdict.specs.declared.ray.Axis.{Axis}
 use Rattle.verdict.specs.Ray.{projected}

@@ -1,5 +1,5 @@
 -- `ray_calls::intersect_plane` meets its contract: the lengths by its tests, the result by what it calls. Assumes nothing.
-use Rattle.std.proofs.Common.{◌≡◌, Bool, List, [], ◌∷◌, sym, refl, ap, ◌∙◌, ap₂, rules, eq-eqb, ne_eqb}
+use Rattle.std.proofs.Common.{◌≡◌, Bool, List, [], ◌∷◌, sym, refl, ap, ◌∙◌, ap₂, eq-eqb, ne_eqb}
 use lib.Ieee.{Float}
 use Rattle.number.specs.Answer.{write, replied}
 use Rattle.verdict.specs.declared.ray.PlaneHit.{PlaneHit}

@@ -1,5 +1,5 @@
 -- `ray_calls::point` meets its contract: the lengths by its tests, the result by what it calls. Assumes nothing.
-use Rattle.std.proofs.Common.{refl, ap, ◌∙◌, ap₂, rules, eq-eqb, ne_eqb}
+use Rattle.std.proofs.Common.{refl, ap, ◌∙◌, ap₂, eq-eqb, ne_eqb}
 use Rattle.matrix.specs.declared.vec.Vec3d.{Vec3d}
 use Rattle.matrix.specs.Vec.{coordinates}
 use Rattle.number.specs.Answer.{write}

@@ -1,5 +1,5 @@
 -- `ray_calls::transformed` meets its contract: the lengths by its tests, the result by what it calls. Assumes nothing.
-use Rattle.std.proofs.Common.{refl, ap, ◌∙◌, ap₂, rules, eq-eqb, ne_eqb}
+use Rattle.std.proofs.Common.{refl, ap, ◌∙◌, ap₂, eq-eqb, ne_eqb}
 use Rattle.number.specs.Answer.{write}
 use Rattle.verdict.specs.declared.ray.Ray.{Ray}
 use Rattle.verdict.specs.Ray.{numbers, transformed}

@@ -1,5 +1,5 @@
 -- `all_planes` meets its contract: a power of two, which has room in a word, less one. Assumes nothing.
-use Rattle.std.proofs.Common.{arith, pow_pos, pow_mono, rules}
+use Rattle.std.proofs.Common.{arith, pow_pos, pow_mono}
 use Rattle.verdict.proofs.view.all_planes.Goals as goal
 
 pub returns : goal.returns

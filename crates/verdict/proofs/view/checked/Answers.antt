@@ -1,6 +1,5 @@
 -- `checked` meets its contract: its tests are those of the definition, in their order. Assumes nothing.
-use Rattle.std.proofs.Common.{Bool, ◌&&◌, sym, refl, ap, ◌∙◌, rules}
-use borrow.Author.Tests.{not-true, not-false}
+use Rattle.std.proofs.Common.{Bool, ◌&&◌, sym, refl, ap, ◌∙◌}
 use Rattle.verdict.specs.View.{held_of}
 use Rattle.verdict.proofs.PlanesHeld.{held}
 use Rattle.verdict.proofs.VerdictChecks.{volume_by_tests}

@@ -1,5 +1,5 @@
 -- `plane_at` meets its contract: a vector and a number of the record. Assumes nothing.
-use Rattle.std.proofs.Common.{◌≡◌, ℕ, ◌+◌, List, ap, ◌∙◌, rules}
+use Rattle.std.proofs.Common.{◌≡◌, ℕ, ◌+◌, List, ap, ◌∙◌}
 use lib.Ieee.{Float}
 use Rattle.number.specs.Slice.{at}
 use Rattle.matrix.specs.Vec.{vec3}

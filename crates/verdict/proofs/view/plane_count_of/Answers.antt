@@ -1,5 +1,5 @@
 -- `plane_count_of` meets its contract: its tests are those of the definition. Assumes nothing.
-use Rattle.std.proofs.Common.{not, ap, arith, rules}
+use Rattle.std.proofs.Common.{not, ap, arith}
 use Rattle.number.specs.Limits.{fewest_planes, most_planes}
 use Rattle.verdict.proofs.Between.{whole_part_lem, in_range}
 use Rattle.verdict.proofs.PlaneCount.{too_few, too_many, within, not_whole, is_whole}

@@ -1,5 +1,5 @@
 -- `planes_held` meets its contract: its tests are those of the definition, in their order; the fewest planes pass the count's. Assumes nothing.
-use Rattle.std.proofs.Common.{sym, ap, ◌∙◌, arith, rules}
+use Rattle.std.proofs.Common.{sym, ap, ◌∙◌, arith}
 use Rattle.number.specs.Limits.{fewest_planes}
 use Rattle.verdict.specs.View.{held_of}
 use Rattle.verdict.proofs.PlaneCount.{fewest}

@@ -1,5 +1,5 @@
 -- `ray_at` meets its contract: two vectors of the record. Assumes nothing.
-use Rattle.std.proofs.Common.{◌≡◌, ℕ, ◌+◌, List, ap, ◌∙◌, ap₂, rules}
+use Rattle.std.proofs.Common.{◌≡◌, ℕ, ◌+◌, List, ap, ◌∙◌, ap₂}
 use lib.Ieee.{Float}
 use Rattle.number.specs.Slice.{at}
 use Rattle.matrix.specs.Vec.{vec3}

@@ -1,5 +1,5 @@
 -- `BBox3d::from_record` meets its contract by its test of the length: part by part by what it calls. Assumes nothing.
-use Rattle.std.proofs.Common.{ap₂, rules}
+use Rattle.std.proofs.Common.{ap₂}
 use lib.Ieee.{eq}
 use Rattle.matrix.proofs.Literals.{one_bits}
 use Rattle.matrix.proofs.Same.{same_matrix}

@@ -1,5 +1,5 @@
 -- `BBox3d::load` meets its contract: part by part by what it calls. Assumes nothing.
-use Rattle.std.proofs.Common.{ap, rules}
+use Rattle.std.proofs.Common.{ap}
 use lib.Ieee.{Float, eq}
 use Rattle.number.specs.Limits.{flag_place}
 use Rattle.number.specs.Slice.{at}

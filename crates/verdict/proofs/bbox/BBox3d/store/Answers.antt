@@ -1,5 +1,4 @@
 -- `BBox3d::store` meets its contract by what it calls. Assumes nothing.
-use Rattle.std.proofs.Common.{rules}
 use Rattle.verdict.proofs.bbox.BBox3d.store.Goals as goal
 
 pub returns : goal.returns

@@ -1,6 +1,5 @@
 -- `Flat::weighed` meets its contract: the weights by what it calls, the answer by its tests. Assumes nothing.
 use Rattle.std.proofs.Common.{◌≡◌, Bool, true, false}
-use borrow.Author.Tests.{not-true, not-false}
 use lib.Ieee.{Float, binary64, of_bits, lt, le}
 use Rattle.number.specs.declared.answer.Refusal.TheVariants.{Miss}
 use Rattle.matrix.specs.Constants.{positive_zero, one}

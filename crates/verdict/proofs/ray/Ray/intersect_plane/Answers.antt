@@ -1,5 +1,5 @@
 -- `Ray::intersect_plane` meets its contract by its tests. Assumes nothing.
-use Rattle.std.proofs.Common.{◌≡◌, Bool, true, false}
+use Rattle.std.proofs.Common.{◌≡◌, true, false}
 use lib.Ieee.{Float, binary64, of_bits, lt, le}
 use Rattle.number.specs.Arithmetic.{◌⊘◌, abs_of}
 use Rattle.matrix.specs.declared.vec.Vec3d.{Vec3d}

@@ -1,6 +1,5 @@
 -- `Ray::intersect_triangle` meets its contract: the hit of the triangle of the three points, by what it calls. Assumes nothing.
 use Rattle.std.proofs.Common.{ap, ◌∙◌}
-use Rattle.verdict.specs.declared.ray.Triangle.{Triangle}
 use Rattle.verdict.specs.Ray.{hit_of, triangle_hit}
 use Rattle.verdict.proofs.ray.Ray.intersect_triangle.Goals as goal
 

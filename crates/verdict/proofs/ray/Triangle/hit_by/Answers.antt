@@ -1,5 +1,5 @@
 -- `Triangle::hit_by` meets its contract by the cases of the hit of the plane. Assumes nothing.
-use Rattle.std.proofs.Common.{◌≡◌, Bool, rules}
+use Rattle.std.proofs.Common.{◌≡◌, Bool}
 use lib.Ieee.{Float}
 use Rattle.matrix.specs.declared.vec.Vec3d.{Vec3d}
 use Rattle.matrix.specs.Vec.{difference}

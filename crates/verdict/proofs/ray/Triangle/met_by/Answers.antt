@@ -1,5 +1,5 @@
 -- `Triangle::met_by` meets its contract by the cases of the hit of the plane, and by the weights of what it calls. Assumes nothing.
-use Rattle.std.proofs.Common.{◌≡◌, Bool, false, not, ◌&&◌, rules}
+use Rattle.std.proofs.Common.{◌≡◌, Bool, false, not, ◌&&◌}
 use lib.Ieee.{Float, binary64, of_bits, lt, le}
 use Rattle.matrix.specs.declared.vec.Vec3d.{Vec3d}
 use Rattle.matrix.specs.Vec.{difference}

@@ -5,7 +5,6 @@ use Rattle.matrix.specs.Vec.{difference}
 use Rattle.verdict.specs.declared.plane.Plane.{Plane}
 use Rattle.verdict.specs.declared.ray.Axis.{Axis}
 use Rattle.verdict.specs.declared.ray.Flat.{Flat}
-use Rattle.verdict.specs.declared.ray.Triangle.{Triangle}
 use Rattle.verdict.specs.Plane.{from_points}
 use Rattle.verdict.specs.Ray.{faced, projected, triangle_of}
 use Rattle.verdict.proofs.ray.Triangle.new.Goals as goal
