@@ -1,5 +1,5 @@
 #!/usr/bin/env python3
-"""Whether the edits, those of the gate and those outside it, still fit the text: each old text stands once in its file, in turn.
+"""Whether the edits, those of the gate (must-fail/) and those outside it (edits/), still fit the text: each old text stands once in its file, in turn.
 
 usage: tools/port/fits.py, at the top of the repository
 """
@@ -25,7 +25,7 @@ def misfit(edit):
 
 
 def main():
-    edits = sorted(ROOT.glob("crates/*/must-fail/**/*.edit"))
+    edits = sorted(ROOT.glob("crates/*/must-fail/*.edit")) + sorted(ROOT.glob("crates/*/edits/**/*.edit"))
     bad = {edit: why for edit in edits if (why := misfit(edit))}
     for edit, why in bad.items():
         print(f"{edit.relative_to(ROOT)}: {why}")
