@@ -105,7 +105,7 @@ module _ {A : Type 0} (lengths : Bool) (held : Outcome A) (flag : Bool) (lent : 
   given_finite y e = by_lengths lengths (is ∙ e)
     where
       by_lengths : (l : Bool) → unless l (refused 1) (checked held true flag (every all_finite lent) judged) ≡ outcome y → T (every all_finite lent)
-      by_lengths true e = subst T (sym (passed held true flag (every all_finite lent) judged y e).finite-passed) tt
+      by_lengths true e = subst T (sym (passed held true flag (every all_finite lent) judged y e).finite_passed) tt
       by_lengths false e = let z : ◌≡◌ {A = ℕ} 0 1 = cc in absurd (omega (arith, z))
 
 -- of one by a volume, by what the checks of the volume and of what is lent beside it come to

@@ -25,11 +25,11 @@ loop-i-init c = (omega arith, refl)
 
 pub loop-i-preserved : goal.loop-i-preserved
 loop-i-preserved c =
-    let l = LOOK k.before.before.loop in
+    let l = c.loop-i in
     (omega arith, next _ _ l.i l.sides _ _ l.invariant.1 c.corner_under.ensures c.passed_by-sides.ensures)
 
 pub returns : goal.returns
 returns c =
     let l = c.loop-i in
-    let a = LOOK made.before.args in
+    let a = c.args in
     all_passed a.b a.m _ l.i l.sides _ (omega arith) c.product-to_clip.ensures l.invariant.1 c.all.ensures

@@ -1,5 +1,5 @@
 -- `frustum_calls::intersects_view_volume` meets its contract: the lengths, the flag and the numbers by its tests, the result by what it calls. Assumes nothing.
-use Rattle.std.proofs.Common.{sym, refl, ap, ◌∙◌, ap₂, rules, eqb-true}
+use Rattle.std.proofs.Common.{not, sym, refl, ap, ◌∙◌, ap₂, rules, eqb-true}
 use borrow.Author.Tests.{not-true, not-false}
 use Rattle.number.specs.Limits.{matrix_length, box_length}
 use Rattle.number.specs.Answer.{outcome}
@@ -19,14 +19,14 @@ pub returns-then-not-is_flag : goal.returns-then-not-is_flag
 returns-then-not-is_flag c =
     let a = c.args in
     by_tests _ _ _ _ _ (two_inputs box_length a.b.now matrix_length a.m.now ∙ c.if-not-b-m.false) refl
-    (no_flag a.b.now _ _ c.at.ensures c.is_flag.ensures c.if-not-is_flag.true) refl
+    (no_flag a.b.now _ _ c.at.ensures c.is_flag.ensures (ap not c.if-not-is_flag.true)) refl
     ∙ clip_call a.b.now a.m.now
 
 pub returns-then-not-all_finite : goal.returns-then-not-all_finite
 returns-then-not-all_finite c =
     let a = c.args in
     by_tests _ _ _ _ _ (two_inputs box_length a.b.now matrix_length a.m.now ∙ c.if-not-b-m.false) refl
-    (is_flag_lem a.b.now _ _ c.at.ensures c.is_flag.ensures c.if-not-is_flag.false)
+    (is_flag_lem a.b.now _ _ c.at.ensures c.is_flag.ensures (ap not c.if-not-is_flag.false))
     (sym (next_record _ c.all_finite.ensures _ (last_record _ c.all_finite-2.ensures)) ∙ c.if-not-all_finite.true)
     ∙ clip_call a.b.now a.m.now
 
@@ -38,6 +38,6 @@ returns c =
     let a = c.args in
     c.of.ensures ∙ ap outcome (c.intersects_view_volume.ensures ∙ ap₂ box_in_view_volume c.load.ensures c.load-2.ensures)
     ∙ by_tests _ _ _ _ _ (two_inputs box_length a.b.now matrix_length a.m.now ∙ c.if-not-b-m.false) refl
-    (is_flag_lem a.b.now _ _ c.at.ensures c.is_flag.ensures c.if-not-is_flag.false)
+    (is_flag_lem a.b.now _ _ c.at.ensures c.is_flag.ensures (ap not c.if-not-is_flag.false))
     (sym (next_record _ c.all_finite.ensures _ (last_record _ c.all_finite-2.ensures)) ∙ c.if-not-all_finite.false)
     ∙ clip_call a.b.now a.m.now

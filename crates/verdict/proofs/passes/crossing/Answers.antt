@@ -8,5 +8,4 @@ use Rattle.verdict.proofs.passes.crossing.Goals as goal
 
 pub returns : goal.returns
 returns c =
-    let a = LOOK along.before.before.args in
-    ap₂ (λ (x y : Float). neg x ⊘ y) LOOK along.before.distance.ensures (c.dot.ensures ∙ ap (λ (v : Vec3d). dot a.plane.normal v) c.sub.ensures)
+    ap₂ (λ (x y : Float). neg x ⊘ y) c.distance.ensures (c.dot.ensures ∙ ap (λ (v : Vec3d). dot c.args.plane.normal v) c.sub.ensures)

@@ -1,5 +1,5 @@
 -- `passes::holds_point` meets its contract: the planes left decide. Assumes nothing.
-use Rattle.std.proofs.Common.{◌≡◌, ◌-◌, ◌≤◌, Bool, drop, refl, ◌∙◌, arith, rules}
+use Rattle.std.proofs.Common.{◌≡◌, ◌-◌, ◌≤◌, Bool, not, drop, refl, ap, ◌∙◌, arith, rules}
 use Rattle.number.proofs.Tabulate.{next as next_plane, none as no_plane}
 use Rattle.number.proofs.ListLoops.{fails, holds, all_hold}
 use Rattle.number.specs.Every.{every}
@@ -19,14 +19,14 @@ pub returns-then-not-on_positive_side : goal.returns-then-not-on_positive_side
 returns-then-not-on_positive_side c =
     let l = c.loop-i in
     let a = c.args in
-    fails (test a.p) _ _ _ (next_plane (plane_in_rows a.rows.now) a.count l.i _ (omega arith) c.plane_in.ensures) _ c.on_positive_side.ensures c.if-not-on_positive_side.true ∙ l.invariant.1
+    fails (test a.p) _ _ _ (next_plane (plane_in_rows a.rows.now) a.count l.i _ (omega arith) c.plane_in.ensures) _ c.on_positive_side.ensures (ap not c.if-not-on_positive_side.true) ∙ l.invariant.1
 
 pub loop-i-preserved : goal.loop-i-preserved
 loop-i-preserved c =
     let l = c.loop-i in
     let a = c.args in (
       omega arith,
-      holds (test a.p) _ _ _ (next_plane (plane_in_rows a.rows.now) a.count l.i _ (omega arith) c.plane_in.ensures) _ c.on_positive_side.ensures c.if-not-on_positive_side.false ∙ l.invariant.1,
+      holds (test a.p) _ _ _ (next_plane (plane_in_rows a.rows.now) a.count l.i _ (omega arith) c.plane_in.ensures) _ c.on_positive_side.ensures (ap not c.if-not-on_positive_side.false) ∙ l.invariant.1,
     )
 
 pub returns : goal.returns

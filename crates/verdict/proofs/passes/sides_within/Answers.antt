@@ -14,6 +14,20 @@ plane_before f n i k x h l e = next f n i x h e ∙ ap (λ (j : ℕ). x ∷ drop
 pub loop-i-init : goal.loop-i-init
 loop-i-init c = let a = c.args in (omega arith, no_sides _ a.p (no_plane (plane_in_rows a.rows.now) a.count a.count (omega arith)))
 
+pub overflow_mul-sides : goal.overflow_mul-sides
+overflow_mul-sides c =
+    let l = c.loop-i in
+    let a = c.args in
+    let left = drop l.i (planes_in_rows a.rows.now a.count) in
+    omega (arith, room left a.p l.sides false (omega (arith, left_count (plane_in_rows a.rows.now) a.count l.i, c.requires)) l.invariant.1)
+
+pub overflow_add-sides : goal.overflow_add-sides
+overflow_add-sides c =
+    let l = c.loop-i in
+    let a = c.args in
+    let left = drop l.i (planes_in_rows a.rows.now a.count) in
+    omega (arith, room left a.p l.sides c.on_positive_side.result (omega (arith, left_count (plane_in_rows a.rows.now) a.count l.i, c.requires)) l.invariant.1)
+
 pub loop-i-preserved : goal.loop-i-preserved
 loop-i-preserved c =
     let l = c.loop-i in

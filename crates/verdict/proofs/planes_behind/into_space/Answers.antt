@@ -22,5 +22,5 @@ returns-then-is_degenerate c =
 
 pub returns : goal.returns
 returns c =
-    let b = LOOK tested.before.before.args.b in
-    c.transpose.ensures ∙ invertible b (sym LOOK tested.before.is-degenerate.ensures ∙ LOOK tested.if1.false)
+    let b = c.args.b in
+    c.transpose.ensures ∙ invertible b (sym c.is_degenerate.ensures ∙ c.if-is_degenerate.false)
