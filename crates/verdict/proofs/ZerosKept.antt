@@ -1,7 +1,7 @@
 -- A zero times numbers stays a zero just where all are finite, and is a NaN from then on; four such products tell of four numbers at a time. By the product's cases. Assumes nothing.
 use Rattle.std.proofs.Common.{◌≡◌, ℕ, ◌+◌, ◌<◌, Bool, true, false, ◌&&◌, ◌⊎◌, List, length, drop, sym, refl, ap, ◌∙◌, subst, inl, inr, mul-pos, add-one, arith, lit<, drop-cons}
 use lib.Seq.{drop-length}
-use lib.Ieee.{Float, nan, inf, fin, binary64, up, down, unlike, mul, eq, of_bits}
+use lib.Ieee.{Float, nan, inf, fin, binary64, unlike, mul, eq, of_bits}
 use lib.Ieee.Scale.{finite}
 use lib.Ieee.Fits.{down_pos}
 use Rattle.number.specs.Arithmetic.{◌⊗◌, zero_of}

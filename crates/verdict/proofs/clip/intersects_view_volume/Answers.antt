@@ -1,5 +1,5 @@
 -- `clip::intersects_view_volume` meets its contract: the bounds are those that the corners passed are inside of. Assumes nothing.
-use Rattle.std.proofs.Common.{◌≡◌, ℕ, ◌+◌, ◌-◌, ◌≤◌, Bool, sym, refl, ap, ◌∙◌, ap₂, add-one, arith, rules}
+use Rattle.std.proofs.Common.{◌≡◌, ℕ, ◌+◌, Bool, sym, refl, ap, ◌∙◌, ap₂, add-one, arith}
 use Rattle.number.specs.Every.{every_below, some_below}
 use Rattle.matrix.specs.Matrix.{product}
 use Rattle.matrix.specs.declared.vec.Vec4d.{Vec4d}

@@ -1,6 +1,6 @@
 -- `finite::all_numbers_finite` meets its contract: the zeros kept, and the numbers left, decide. Assumes nothing.
-use Rattle.std.proofs.Common.{◌+◌, ◌-◌, ◌*◌, ◌≤◌, arith, rules}
-use Rattle.verdict.proofs.ZerosKept.{FourKept, started, four_more, all_told}
+use Rattle.std.proofs.Common.{◌+◌, ◌-◌, ◌*◌, ◌≤◌}
+use Rattle.verdict.proofs.ZerosKept.{FourKept}
 use Rattle.verdict.proofs.finite.all_numbers_finite.Given as goal
 
 abbrev pub invariant-loop-i : goal.invariant-loop-i

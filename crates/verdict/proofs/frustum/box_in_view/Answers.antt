@@ -1,5 +1,4 @@
 -- `frustum::box_in_view` meets its contract: of the planes there are those that are counted, or all. Assumes nothing.
--- as many planes as are counted, of those there are
 use Rattle.std.proofs.Common.{◌≡◌, ℕ, min, Bool, true, false, ◌&&◌, leb, List, take, sym, refl, ap, ◌∙◌, arith, take_all, eq-eqb, ne_eqb, leb-false, leb-true}
 use lib.Ieee.{Float}
 use Rattle.number.specs.Limits.{most_planes}
@@ -10,6 +9,7 @@ use Rattle.verdict.specs.Rows.{plane_in_rows, planes_in_rows}
 use Rattle.verdict.specs.Frustum.{box_in_view}
 use Rattle.verdict.proofs.frustum.box_in_view.Goals as goal
 
+-- as many planes as are counted, of those there are
 counted : (l : List Float) (n k : ℕ) → k ≡ min n most_planes → planes_in_rows l k ≡ take n (planes_in_rows l most_planes)
 counted l n k e = go (leb n most_planes) refl
   where

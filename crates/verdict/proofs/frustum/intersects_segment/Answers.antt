@@ -1,5 +1,5 @@
 -- `frustum::intersects_segment` meets its contract: by either way it asks the planes that are counted. Assumes nothing.
-use Rattle.std.proofs.Common.{ℕ, sym, ap, ◌∙◌, subst, rules}
+use Rattle.std.proofs.Common.{ℕ, sym, ap, ◌∙◌, subst}
 use Rattle.verdict.specs.View.{planes_of}
 use Rattle.verdict.specs.Frustum.{segment_in_view}
 use Rattle.verdict.specs.Steps.Passes.{HasPlanes}

@@ -1,5 +1,5 @@
 -- `frustum::segment_left` meets its contract: its tests are those of the definition, in their order. Assumes nothing.
-use Rattle.std.proofs.Common.{◌≡◌, ℕ, Bool, true, false, ◌&&◌, ◌||◌, eqb, List, sym, refl, ap, ◌∙◌, rules, eq-eqb, ne_eqb}
+use Rattle.std.proofs.Common.{◌≡◌, ℕ, Bool, true, false, ◌&&◌, ◌||◌, eqb, List, sym, refl, ap, ◌∙◌, eq-eqb, ne_eqb}
 use lib.Bits.{bit_or}
 use lib.Ieee.{Float}
 use Rattle.number.specs.Every.{every}

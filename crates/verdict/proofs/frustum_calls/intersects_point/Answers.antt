@@ -1,5 +1,5 @@
 -- `frustum_calls::intersects_point` meets its contract: the length by its test, and the rest by what its checks come to. Assumes nothing.
-use Rattle.std.proofs.Common.{sym, refl, ap, ◌∙◌, rules, eq-eqb, ne_eqb}
+use Rattle.std.proofs.Common.{sym, refl, ap, ◌∙◌, eq-eqb, ne_eqb}
 use Rattle.number.specs.Limits.{point_length}
 use Rattle.number.specs.Answer.{outcome}
 use Rattle.verdict.specs.View.{held_of, planes_of}

@@ -1,6 +1,5 @@
 -- `frustum_calls::intersects_segment` meets its contract: the lengths by their test, and the rest by what its checks come to. Assumes nothing.
-use Rattle.std.proofs.Common.{sym, refl, ap, ◌∙◌, ap₂, rules}
-use borrow.Author.Tests.{not-true, not-false}
+use Rattle.std.proofs.Common.{sym, refl, ap, ◌∙◌, ap₂}
 use Rattle.number.specs.Limits.{point_length}
 use Rattle.number.specs.Answer.{outcome}
 use Rattle.verdict.specs.View.{held_of, planes_of}

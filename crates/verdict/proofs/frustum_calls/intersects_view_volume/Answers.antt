@@ -1,6 +1,5 @@
 -- `frustum_calls::intersects_view_volume` meets its contract: the lengths, the flag and the numbers by its tests, the result by what it calls. Assumes nothing.
-use Rattle.std.proofs.Common.{not, sym, refl, ap, ◌∙◌, ap₂, rules, eqb-true}
-use borrow.Author.Tests.{not-true, not-false}
+use Rattle.std.proofs.Common.{not, sym, refl, ap, ◌∙◌, ap₂, eqb-true}
 use Rattle.number.specs.Limits.{matrix_length, box_length}
 use Rattle.number.specs.Answer.{outcome}
 use Rattle.number.proofs.Tests.{both_hold}

@@ -1,5 +1,5 @@
 -- `gathered::end_sides` meets its contract: the planes in rows are those of the record. Assumes nothing.
-use Rattle.std.proofs.Common.{List, refl, ap, ◌∙◌, rules}
+use Rattle.std.proofs.Common.{List, refl, ap, ◌∙◌}
 use Rattle.verdict.specs.declared.plane.Plane.{Plane}
 use Rattle.verdict.specs.Steps.Passes.{sides_of}
 use Rattle.verdict.proofs.SideBySide.{same_planes}

@@ -1,5 +1,5 @@
 -- `gathered::holds_point` meets its contract: the planes in rows are those of the record. Assumes nothing.
-use Rattle.std.proofs.Common.{List, refl, ap, ◌∙◌, rules}
+use Rattle.std.proofs.Common.{List, refl, ap, ◌∙◌}
 use Rattle.verdict.specs.declared.plane.Plane.{Plane}
 use Rattle.verdict.specs.Frustum.{point_in_view}
 use Rattle.verdict.proofs.SideBySide.{same_planes}

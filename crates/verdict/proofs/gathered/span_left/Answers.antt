@@ -1,5 +1,5 @@
 -- `gathered::span_left` meets its contract: the planes in rows are those of the record. Assumes nothing.
-use Rattle.std.proofs.Common.{List, sym, refl, ap, ◌∙◌, rules}
+use Rattle.std.proofs.Common.{List, sym, refl, ap, ◌∙◌}
 use Rattle.matrix.specs.Constants.{positive_zero, one}
 use Rattle.verdict.specs.declared.plane.Plane.{Plane}
 use Rattle.verdict.specs.Frustum.{span_left}

@@ -1,12 +1,8 @@
 -- `passes::holds_point` meets its contract: the planes left decide. Assumes nothing.
-use Rattle.std.proofs.Common.{◌≡◌, ◌-◌, ◌≤◌, Bool, not, drop, refl, ap, ◌∙◌, arith, rules}
+use Rattle.std.proofs.Common.{not, refl, ap, ◌∙◌, arith}
 use Rattle.number.proofs.Tabulate.{next as next_plane, none as no_plane}
 use Rattle.number.proofs.ListLoops.{fails, holds, all_hold}
-use Rattle.number.specs.Every.{every}
-use Rattle.matrix.specs.declared.vec.Vec3d.{Vec3d}
-use Rattle.verdict.specs.declared.plane.Plane.{Plane}
-use Rattle.verdict.specs.Plane.{on_positive_side}
-use Rattle.verdict.specs.Rows.{plane_in_rows, planes_in_rows}
+use Rattle.verdict.specs.Rows.{plane_in_rows}
 use Rattle.verdict.specs.Frustum.{point_in_view}
 use Rattle.verdict.proofs.passes.holds_point.Invariants.{test}
 use Rattle.verdict.proofs.passes.holds_point.Goals as goal

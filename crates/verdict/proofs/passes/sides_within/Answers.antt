@@ -1,6 +1,5 @@
 -- `sides_within` meets its contract: the bits are those of the planes passed. Assumes nothing.
--- the planes from place i on, told from behind
-use Rattle.std.proofs.Common.{◌≡◌, ℕ, ◌+◌, ◌<◌, ◌≤◌, false, ◌∷◌, drop, sym, ap, ◌∙◌, arith, rules}
+use Rattle.std.proofs.Common.{◌≡◌, ℕ, ◌+◌, ◌<◌, false, ◌∷◌, drop, sym, ap, ◌∙◌, arith}
 use Rattle.number.specs.Tabulate.{tabulate}
 use Rattle.number.proofs.Tabulate.{next, left_count, none as no_plane}
 use Rattle.verdict.specs.Rows.{plane_in_rows, planes_in_rows}
@@ -8,6 +7,7 @@ use Rattle.verdict.specs.Steps.Passes.{sides_of}
 use Rattle.verdict.proofs.Sides.{room, sides_next, no_sides}
 use Rattle.verdict.proofs.passes.sides_within.Goals as goal
 
+-- the planes from place i on, told from behind
 plane_before : {A : Type 0} (f : ℕ → A) (n i k : ℕ) (x : A) → i < n → k ≡ i + 1 → x ≡ f i → drop i (tabulate f n) ≡ x ∷ drop k (tabulate f n)
 plane_before f n i k x h l e = next f n i x h e ∙ ap (λ (j : ℕ). x ∷ drop j (tabulate f n)) (sym l)
 

@@ -1,12 +1,9 @@
 -- `span_left` meets its contract: the planes left and what is left of the segment decide. Assumes nothing.
-use Rattle.std.proofs.Common.{◌≡◌, ◌-◌, ◌≤◌, false, drop, refl, ◌∙◌, arith, rules}
+use Rattle.std.proofs.Common.{refl, ◌∙◌, arith}
 use lib.Count.{count_trailing_zeros}
 use lib.Ieee.{lt, of_bits, round, units, odd, size, span, climb}
 use Rattle.number.proofs.Tabulate.{next as next_plane, none as no_plane}
-use Rattle.matrix.specs.Constants.{positive_zero, one}
-use Rattle.verdict.specs.Rows.{plane_in_rows, planes_in_rows}
-use Rattle.verdict.specs.Frustum.{span_left}
-use Rattle.verdict.specs.Steps.Passes.{sides_of}
+use Rattle.verdict.specs.Rows.{plane_in_rows}
 use Rattle.verdict.proofs.SpanLeft.{other_sides, nothing_left, some_left, all_passed}
 use Rattle.verdict.proofs.passes.span_left.Goals as goal
 

@@ -1,17 +1,14 @@
 -- `planes_behind::bits_behind` meets its contract: the bits are those of the planes passed, and as long as none is set the planes left decide. Assumes nothing.
-use Rattle.std.proofs.Common.{◌≡◌, ℕ, ◌+◌, ◌-◌, ◌^◌, ◌≤◌, Bool, true, false, cond, not, ◌&&◌, T, List, drop, sym, refl, ap, ◌∙◌, subst, add-one, arith, rules}
-use borrow.Author.Tests.{not-true, not-false}
+use Rattle.std.proofs.Common.{◌≡◌, ℕ, ◌+◌, ◌^◌, Bool, true, false, cond, not, ◌&&◌, T, List, sym, refl, ap, ◌∙◌, subst, add-one, arith}
 use lib.Ieee.{Float}
 use Rattle.number.proofs.Tabulate.{as_many, next as next_plane, none as no_plane}
 use Rattle.number.proofs.ListLoops.{fails, holds, all_hold}
 use Rattle.number.specs.Every.{every}
 use Rattle.number.specs.Places.{places_below}
 use Rattle.matrix.specs.declared.matrix.Mat4d.{Mat4d}
-use Rattle.matrix.specs.declared.range.Range3d.{Range3d}
 use Rattle.matrix.specs.Range.{is_empty}
 use Rattle.verdict.specs.declared.plane.Plane.{Plane}
 use Rattle.verdict.specs.declared.bbox.BBox3d.{BBox3d}
-use Rattle.verdict.specs.Plane.{reaches_positive_side, under_inverse_transpose}
 use Rattle.verdict.specs.Rows.{plane_in_rows, planes_in_rows}
 use Rattle.verdict.specs.Frustum.{box_in_view, into_space_of}
 use Rattle.verdict.specs.PlanesBehind.{is_behind, bits_at, places_behind, blocking_planes}

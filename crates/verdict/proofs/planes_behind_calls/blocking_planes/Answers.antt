@@ -1,5 +1,5 @@
 -- `planes_behind_calls::blocking_planes` meets its contract: each way out is the call's. Assumes nothing.
-use Rattle.std.proofs.Common.{false, List, sym, refl, ap, ◌∙◌, rules, eqb-true}
+use Rattle.std.proofs.Common.{false, List, sym, refl, ap, ◌∙◌, eqb-true}
 use Rattle.number.specs.Answer.{verdict_of, outcome}
 use Rattle.verdict.specs.declared.plane.Plane.{Plane}
 use Rattle.verdict.specs.BBox.{box_of}

@@ -1,5 +1,5 @@
 -- `record::vec4_at` meets its contract: number by number what the slice has there. Assumes nothing.
-use Rattle.std.proofs.Common.{refl, rules}
+use Rattle.std.proofs.Common.{refl}
 use Rattle.matrix.proofs.Same.{same_vec4, first}
 use Rattle.verdict.proofs.record.vec4_at.Goals as goal
 

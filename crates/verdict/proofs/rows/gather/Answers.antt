@@ -1,6 +1,6 @@
 -- `rows::gather` meets its contract: the planes passed are put to their places. Assumes nothing.
-use Rattle.std.proofs.Common.{◌≡◌, ℕ, ◌-◌, ◌≤◌, length, sym, refl, ◌∙◌, subst, arith, length-set, rules}
-use Rattle.verdict.specs.Rows.{rows_length, with_planes}
+use Rattle.std.proofs.Common.{◌≡◌, ℕ, sym, refl, ◌∙◌, subst, arith, length-set}
+use Rattle.verdict.specs.Rows.{with_planes}
 use Rattle.verdict.proofs.SideBySide.{next_put}
 use Rattle.verdict.proofs.rows.gather.Goals as goal
 

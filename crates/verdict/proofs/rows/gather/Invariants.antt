@@ -1,7 +1,6 @@
 -- `rows::gather` meets its contract: the planes passed are put to their places. Assumes nothing.
-use Rattle.std.proofs.Common.{◌≡◌, ℕ, ◌-◌, ◌≤◌, length, sym, refl, ◌∙◌, subst, arith, length-set, rules}
+use Rattle.std.proofs.Common.{◌≡◌, ◌-◌, ◌≤◌, length}
 use Rattle.verdict.specs.Rows.{rows_length, with_planes}
-use Rattle.verdict.proofs.SideBySide.{next_put}
 use Rattle.verdict.proofs.rows.gather.Given as goal
 
 abbrev pub invariant-loop-i : goal.invariant-loop-i

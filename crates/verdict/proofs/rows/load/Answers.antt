@@ -1,5 +1,5 @@
 -- `rows::load` meets its contract: what a record holds is gathered into a slice that has room for just that. Assumes nothing.
-use Rattle.std.proofs.Common.{true, false, sym, ap, ◌∙◌, rules, eq-eqb, ne_eqb}
+use Rattle.std.proofs.Common.{true, false, sym, ap, ◌∙◌, eq-eqb, ne_eqb}
 use Rattle.verdict.specs.View.{held_of}
 use Rattle.verdict.proofs.PlanesHeld.{held, has_planes}
 use Rattle.verdict.proofs.SideBySide.{kept_of_refused, by_room}

@@ -1,5 +1,5 @@
 -- `rows::plane_in` meets its contract: a number of each row. Assumes nothing.
-use Rattle.std.proofs.Common.{◌≡◌, ℕ, List, sym, ap, rules}
+use Rattle.std.proofs.Common.{◌≡◌, ℕ, List, sym, ap}
 use lib.Ieee.{Float}
 use Rattle.number.specs.Slice.{at}
 use Rattle.verdict.specs.declared.plane.Plane.{Plane}

@@ -1,6 +1,5 @@
 -- `intersects_triangle` meets its contract: its tests are those of the definition, in their order. Assumes nothing.
--- where no corner is inside, a side is in view if something of it is left
-use Rattle.std.proofs.Common.{◌≡◌, ℕ, ◌≤◌, Bool, true, false, cond, ◌&&◌, ◌||◌, eqb, List, take, sym, refl, ap, ◌∙◌, rules, eq-eqb, ne_eqb}
+use Rattle.std.proofs.Common.{◌≡◌, ℕ, ◌≤◌, Bool, true, false, cond, ◌&&◌, ◌||◌, eqb, List, take, sym, refl, ap, ◌∙◌, eq-eqb, ne_eqb}
 use lib.Bits.{bit_and, bit_or}
 use lib.Ieee.{Float}
 use Rattle.number.specs.Limits.{fewest_planes}
@@ -17,6 +16,7 @@ use Rattle.verdict.proofs.PlanesHeld.{has_original}
 use Rattle.verdict.proofs.Sides.{some_corner, corner_inside, all_corners, near_and_far_lem}
 use Rattle.verdict.proofs.triangle.intersects_triangle.Goals as goal
 
+-- where no corner is inside, a side is in view if something of it is left
 outside : (a b c e f g u v w h : Bool)
     → (a || b || c || e && u || f && v || g && w || h) ≡ (a || b || c || e && (a || b || u) || f && (b || c || v) || g && (c || a || w) || h)
 outside true b c e f g u v w h = refl

@@ -1,11 +1,7 @@
 -- `line_meets` meets its contract: the rays left decide. Assumes nothing.
-use Rattle.std.proofs.Common.{◌≡◌, ◌-◌, ◌≤◌, Bool, true, false, ◌||◌, List, [], ◌∷◌, take, drop, sym, refl, ap, ◌∙◌, arith, rules}
-use Rattle.matrix.specs.declared.vec.Vec3d.{Vec3d}
-use Rattle.verdict.specs.declared.ray.Ray.{Ray}
-use Rattle.verdict.specs.Ray.{triangle_hit}
+use Rattle.std.proofs.Common.{◌≡◌, ◌-◌, ◌≤◌, take, drop}
 use Rattle.verdict.specs.View.{rays_of}
-use Rattle.verdict.specs.Frustum.{is_hit, some_hit}
-use Rattle.verdict.proofs.ViewLists.{next_ray, no_ray}
+use Rattle.verdict.specs.Frustum.{some_hit}
 use Rattle.verdict.proofs.triangle.line_meets.Given as goal
 
 abbrev pub invariant-loop-i : goal.invariant-loop-i

@@ -1,5 +1,5 @@
 -- `meets` meets its contract, case by case. Assumes nothing.
-use Rattle.std.proofs.Common.{sym, ap, ◌∙◌, rules}
+use Rattle.std.proofs.Common.{sym, ap, ◌∙◌}
 use Rattle.verdict.specs.Frustum.{is_hit}
 use Rattle.verdict.proofs.triangle.meets.Goals as goal
 

@@ -1,5 +1,5 @@
 -- `side_in_view` meets its contract by its test. Assumes nothing.
-use Rattle.std.proofs.Common.{◌≡◌, Bool, true, false, ◌&&◌, List, sym, refl, ◌∙◌, rules, eq-eqb, ne_eqb}
+use Rattle.std.proofs.Common.{◌≡◌, Bool, true, false, ◌&&◌, List, sym, refl, ◌∙◌, eq-eqb, ne_eqb}
 use Rattle.number.specs.Limits.{fewest_planes}
 use Rattle.number.specs.Every.{every}
 use Rattle.number.proofs.Tabulate.{as_many as plane_count_lem}

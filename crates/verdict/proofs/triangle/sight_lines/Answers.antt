@@ -1,5 +1,5 @@
 -- `sight_lines` meets its contract by its test. Assumes nothing.
-use Rattle.std.proofs.Common.{Bool, cond, sym, ap, arith, rules, eq-eqb, ne_eqb}
+use Rattle.std.proofs.Common.{Bool, cond, sym, ap, arith, eq-eqb, ne_eqb}
 use Rattle.verdict.specs.View.{ray_count}
 use Rattle.verdict.proofs.triangle.sight_lines.Goals as goal
 

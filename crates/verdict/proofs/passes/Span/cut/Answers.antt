@@ -1,11 +1,11 @@
 -- `Span::cut` meets its contract: by the sides that the ends are on. Assumes nothing.
--- the cuts, by what is known of the sides
 use Rattle.std.proofs.Common.{◌≡◌, Bool, true, false, sym, ap, ◌∙◌}
 use lib.Ieee.{Float}
 use Rattle.number.specs.Arithmetic.{min_of, max_of}
 use Rattle.verdict.specs.Frustum.{crossing, start_cut, end_cut}
 use Rattle.verdict.proofs.passes.Span.cut.Goals as goal
 
+-- the cuts, by what is known of the sides
 cuts : (x y : Bool) (start end at : Float) {i j : Bool} → i ≡ x → j ≡ y → (start_cut x y start at ≡ start_cut i j start at) × (end_cut x y end at ≡ end_cut i j end at)
 cuts x y start end at p q = (sym (λ t. start_cut (p t) (q t) start at), sym (λ t. end_cut (p t) (q t) end at))
 
