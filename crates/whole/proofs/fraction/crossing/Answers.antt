@@ -1,15 +1,10 @@
 -- `crossing` meets its contract: two sizes and their sum. Assumes nothing.
 use mathlib.Core.Path.{ap, ◌∙◌}
-use Prim.Native.Nat.{◌+◌, ◌≤◌}
-use native.Mathlib.Nat.{lt_of_le_of_lt}
-use native.Mathlib.Omega.{arith}
-use borrow.Author.Rules.{rules}
-use lib.Dec.{lit<}
+use Prim.Native.Nat.{◌+◌}
 use lib.IntN.{nat_abs}
 use mir.Syntax.{w64}
 use mir.ValLaws.{to_z-of_z}
 use Rattle.whole.specs.Segment.{fraction}
-use Rattle.whole.specs.Steps.{gap_limit}
 use Rattle.whole.proofs.fraction.crossing.Goals as goal
 
 pub returns : goal.returns

@@ -4,7 +4,6 @@ use mathlib.Core.Bool.{◌&&◌}
 use Prim.Native.Nat.{◌≤◌}
 use native.Mathlib.Omega.{arith}
 use borrow.Author.Rules.{rules}
-use borrow.Author.Tests.{not-true, not-false}
 use lib.ListN.{length}
 use Rattle.number.specs.Limits.{fewest_planes}
 use Rattle.number.specs.Answer.{outcome}
@@ -33,7 +32,7 @@ returns-then-count-lt-FEWEST_PLANES c =
     let i = c.if-p1-ne-POINT_LENGTH.false in
     let l : view_length fewest_planes ≤ length v = omega (arith, c.view_length.ensures, c.if-view-view_length.false) in
     let k = c.count_of-count.result in
-    let e = counted (number_at v 0) k c.count_of-arg-1.given c.count_of-count.ensures in
+    let e = counted (number_at v 0) k (search rules) c.count_of-count.ensures in
     too_few v p q h i l k e c.if-count-lt-FEWEST_PLANES.true
 
 pub returns-then-count-gt-MOST_PLANES : goal.returns-then-count-gt-MOST_PLANES
@@ -45,7 +44,7 @@ returns-then-count-gt-MOST_PLANES c =
     let i = c.if-p1-ne-POINT_LENGTH.false in
     let l : view_length fewest_planes ≤ length v = omega (arith, c.view_length.ensures, c.if-view-view_length.false) in
     let k = c.count_of-count.result in
-    let e = counted (number_at v 0) k c.count_of-arg-1.given c.count_of-count.ensures in
+    let e = counted (number_at v 0) k (search rules) c.count_of-count.ensures in
     too_many v p q h i l k e c.if-count-lt-FEWEST_PLANES.false c.if-count-gt-MOST_PLANES.true
 
 pub returns-then-view-view_length-2 : goal.returns-then-view-view_length-2
@@ -57,7 +56,7 @@ returns-then-view-view_length-2 c =
     let i = c.if-p1-ne-POINT_LENGTH.false in
     let l : view_length fewest_planes ≤ length v = omega (arith, c.view_length.ensures, c.if-view-view_length.false) in
     let k = c.count_of-count.result in
-    let e = counted (number_at v 0) k c.count_of-arg-1.given c.count_of-count.ensures in
+    let e = counted (number_at v 0) k (search rules) c.count_of-count.ensures in
     other_length v p q h i l k e c.if-count-lt-FEWEST_PLANES.false c.if-count-gt-MOST_PLANES.false (λ x. c.if-view-view_length-2.true (x ∙ sym c.view_length-2.ensures))
 
 pub returns-then-not-point_within-planes_within : goal.returns-then-not-point_within-planes_within
@@ -69,7 +68,7 @@ returns-then-not-point_within-planes_within c =
     let i = c.if-p1-ne-POINT_LENGTH.false in
     let l : view_length fewest_planes ≤ length v = omega (arith, c.view_length.ensures, c.if-view-view_length.false) in
     let k = c.count_of-count.result in
-    let e = counted (number_at v 0) k c.count_of-arg-1.given c.count_of-count.ensures in
+    let e = counted (number_at v 0) k (search rules) c.count_of-count.ensures in
     let n = c.if-view-view_length-2.false ∙ c.view_length-2.ensures in
     let g : c.point_within.result && c.point_within-2.result && c.planes_within.result ≡ segment_on_grid (planes_of v k) (point_of p) (point_of q) =
     λ t. c.point_within.ensures t && c.point_within-2.ensures t && c.planes_within.ensures t in
@@ -84,7 +83,7 @@ segment_in_view-requires c =
     let i = c.if-p1-ne-POINT_LENGTH.false in
     let l : view_length fewest_planes ≤ length v = omega (arith, c.view_length.ensures, c.if-view-view_length.false) in
     let k = c.count_of-count.result in
-    let e = counted (number_at v 0) k c.count_of-arg-1.given c.count_of-count.ensures in
+    let e = counted (number_at v 0) k (search rules) c.count_of-count.ensures in
     let n = c.if-view-view_length-2.false ∙ c.view_length-2.ensures in
     let g : c.point_within.result && c.point_within-2.result && c.planes_within.result ≡ segment_on_grid (planes_of v k) (point_of p) (point_of q) =
     λ t. c.point_within.ensures t && c.point_within-2.ensures t && c.planes_within.ensures t in
@@ -99,7 +98,7 @@ returns c =
     let i = c.if-p1-ne-POINT_LENGTH.false in
     let l : view_length fewest_planes ≤ length v = omega (arith, c.view_length.ensures, c.if-view-view_length.false) in
     let k = c.count_of-count.result in
-    let e = counted (number_at v 0) k c.count_of-arg-1.given c.count_of-count.ensures in
+    let e = counted (number_at v 0) k (search rules) c.count_of-count.ensures in
     let n = c.if-view-view_length-2.false ∙ c.view_length-2.ensures in
     let g : c.point_within.result && c.point_within-2.result && c.planes_within.result ≡ segment_on_grid (planes_of v k) (point_of p) (point_of q) =
     λ t. c.point_within.ensures t && c.point_within-2.ensures t && c.planes_within.ensures t in

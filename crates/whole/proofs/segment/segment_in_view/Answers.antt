@@ -1,18 +1,14 @@
 -- `segment_in_view` meets its contract: the planes left and the span so far decide. Assumes nothing.
-use mathlib.Core.Path.{◌≡◌, refl, sym, subst, ◌∙◌}
-use mathlib.Core.Bool.{true}
-use Prim.Native.Nat.{◌-◌, ◌≤◌}
+use mathlib.Core.Path.{refl, sym, ap, subst, ◌∙◌}
+use mathlib.Core.Bool.{not}
+use Prim.Native.Nat.{◌≤◌}
 use native.Mathlib.Omega.{arith}
-use borrow.Author.Rules.{rules}
 use lib.Dec.{lit≤}
-use lib.ListN.{drop}
 use lib.IntN.{ℤ, nat_abs, ◌-ℤ◌}
-use Rattle.number.specs.Every.{every}
 use Rattle.number.proofs.Tabulate.{next as next_plane, none as no_plane}
 use Rattle.number.proofs.ListLoops.{each_holds}
-use Rattle.whole.specs.Segment.{leaves, segment_in_view}
 use Rattle.whole.specs.SegmentCall.{point_of, plane_at, planes_of, plane_within}
-use Rattle.whole.specs.Steps.{gap_limit, widest, SmallSpan}
+use Rattle.whole.specs.Steps.{gap_limit, widest}
 use Rattle.whole.proofs.Gaps.{gap_read, gap_wide}
 use Rattle.whole.proofs.Leaves.{from_the_ends, both_behind, goes_on, none_left}
 use Rattle.whole.proofs.Limits.{grid_parts}
@@ -56,7 +52,7 @@ returns-then-not-in_front c =
     let P = plane_at v l.i in
     let F = gap_read P A c.gap-first.result c.gap-first.ensures each.0 grid.0 in
     let F' = gap_read P B c.gap-second.result c.gap-second.ensures each.0 grid.1 in
-    both_behind A B _ _ P next _ _ F.is F'.is l.span _ _ c.in_front.ensures c.in_front-in-loop-i.ensures c.if-not-in_front.true ∙ l.invariant.3
+    both_behind A B _ _ P next _ _ F.is F'.is l.span _ _ c.in_front.ensures c.in_front-in-loop-i.ensures (ap not c.if-not-in_front.true) ∙ l.invariant.3
 
 pub cut-span-requires : goal.cut-span-requires
 cut-span-requires c =
@@ -93,7 +89,7 @@ loop-i-preserved c =
       omega arith,
       c.cut-span.ensures.small,
       each.1,
-      goes_on A B _ _ P next _ _ F.is F'.is l.span _ _ c.in_front.ensures c.in_front-in-loop-i.ensures c.if-not-in_front.false c.cut-span.result c.cut-span.ensures ∙ l.invariant.3,
+      goes_on A B _ _ P next _ _ F.is F'.is l.span _ _ c.in_front.ensures c.in_front-in-loop-i.ensures (ap not c.if-not-in_front.false) c.cut-span.result c.cut-span.ensures ∙ l.invariant.3,
     )
 
 pub less-requires : goal.less-requires

@@ -1,12 +1,9 @@
 -- `count_of` meets its contract: below 0 none, and else the number itself. Assumes nothing.
-use mathlib.Core.Path.{sym, ap, subst, ◌∙◌}
-use lib.Dec.{T}
-use lib.IntN.{ℤ, nat_abs}
-use lib.Signed.{non_neg}
+use mathlib.Core.Path.{ap, ◌∙◌}
+use lib.IntN.{nat_abs}
 use mir.Syntax.{w32}
-use mir.Val.{Fits}
 use mir.ValLaws.{to_z-of_z}
-use Rattle.whole.proofs.Registers.{below_zero, from_zero, test_read, front_fits}
+use Rattle.whole.proofs.Registers.{below_zero, from_zero, test_read}
 use Rattle.whole.proofs.Limits.{counts_none, counts}
 use Rattle.whole.proofs.view.count_of.Goals as goal
 

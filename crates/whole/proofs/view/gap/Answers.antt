@@ -1,8 +1,16 @@
 -- `gap` meets its contract: on the grid nothing overflows. Assumes nothing.
-use Rattle.whole.proofs.Gaps.{on, normal_0, normal_1, normal_2, distance, point_0, point_1, point_2}
-use Rattle.whole.proofs.Gaps.{product_0, product_1, product_2, sum_of_two, sum_of_three, difference, gap_is}
-use borrow.Author.Rules.{rules}
+use Rattle.whole.proofs.Gaps.{on}
+use Rattle.whole.proofs.Gaps.{sum_of_two, sum_of_three, difference, gap_is}
 use Rattle.whole.proofs.view.gap.Goals as goal
+
+pub overflow_add-result-2 : goal.overflow_add-result-2
+overflow_add-result-2 c = sum_of_two (on c.args.view.now c.args.i c.view_length-from.result c.args.p.now c.view_length-from.ensures c.requires.2 c.requires.3)
+
+pub overflow_add-result-4 : goal.overflow_add-result-4
+overflow_add-result-4 c = sum_of_three (on c.args.view.now c.args.i c.view_length-from.result c.args.p.now c.view_length-from.ensures c.requires.2 c.requires.3)
+
+pub overflow_sub-result : goal.overflow_sub-result
+overflow_sub-result c = difference (on c.args.view.now c.args.i c.view_length-from.result c.args.p.now c.view_length-from.ensures c.requires.2 c.requires.3)
 
 pub returns : goal.returns
 returns c =

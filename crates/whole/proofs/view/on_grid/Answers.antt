@@ -1,6 +1,5 @@
 -- `on_grid` meets its contract: the test of a limit, at the grid's. Assumes nothing.
 use Rattle.whole.proofs.Limits.{tested}
-use borrow.Author.Rules.{rules}
 use Rattle.whole.proofs.view.on_grid.Goals as goal
 
 pub returns : goal.returns

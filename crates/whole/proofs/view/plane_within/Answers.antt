@@ -15,9 +15,9 @@ returns c =
     let from = c.view_length-from.result in
     let e = c.view_length-from.ensures in
     let e0 : from ≡ plane_start c.args.i + 0 = omega (arith, e) in
-    let x = tested (number_at v from) _ _ LOOK first.Within-arg.given c.within.ensures in
-    let y = tested (number_at v (from + 1)) _ _ c.within-arg-2-1.given c.within-2.ensures in
-    let z = tested (number_at v (from + 2)) _ _ c.within-arg-3-1.given c.within-3.ensures in
-    let d = tested (number_at v (from + 3)) _ _ c.within-arg-4-1.given c.within-4.ensures in
+    let x = tested (number_at v from) _ _ (search rules) c.within.ensures in
+    let y = tested (number_at v (from + 1)) _ _ (search rules) c.within-2.ensures in
+    let z = tested (number_at v (from + 2)) _ _ (search rules) c.within-3.ensures in
+    let d = tested (number_at v (from + 3)) _ _ (search rules) c.within-4.ensures in
     (λ t. x t && y t && z t && d t)
     ∙ (λ t. within normal_limit (number_at v (e0 t)) && within normal_limit (number_at v (e t + 1)) && within normal_limit (number_at v (e t + 2)) && within distance_limit (number_at v (e t + 3)))

@@ -1,13 +1,10 @@
 -- `planes_within` meets its contract: the planes left decide. Assumes nothing.
-use mathlib.Core.Path.{◌≡◌, refl, ◌∙◌}
-use Prim.Native.Nat.{◌-◌, ◌≤◌}
+use mathlib.Core.Path.{refl, ap, ◌∙◌}
+use mathlib.Core.Bool.{not}
 use native.Mathlib.Omega.{arith}
-use borrow.Author.Rules.{rules}
-use lib.ListN.{drop}
-use Rattle.number.specs.Every.{every}
 use Rattle.number.proofs.Tabulate.{next, none}
 use Rattle.number.proofs.ListLoops.{fails, holds, all_hold}
-use Rattle.whole.specs.SegmentCall.{plane_at, planes_of, plane_within}
+use Rattle.whole.specs.SegmentCall.{plane_at, plane_within}
 use Rattle.whole.proofs.view.planes_within.Goals as goal
 
 pub loop-i-init : goal.loop-i-init
@@ -20,14 +17,14 @@ pub returns-then-not-plane_within : goal.returns-then-not-plane_within
 returns-then-not-plane_within c =
     let l = c.loop-i in
     let a = c.args in
-    fails plane_within _ _ _ (next (plane_at a.view.now) a.count l.i _ (omega arith) refl) _ c.plane_within.ensures c.if-not-plane_within.true ∙ l.invariant.1
+    fails plane_within _ _ _ (next (plane_at a.view.now) a.count l.i _ (omega arith) refl) _ c.plane_within.ensures (ap not c.if-not-plane_within.true) ∙ l.invariant.1
 
 pub loop-i-preserved : goal.loop-i-preserved
 loop-i-preserved c =
     let l = c.loop-i in
     let a = c.args in (
       omega arith,
-      holds plane_within _ _ _ (next (plane_at a.view.now) a.count l.i _ (omega arith) refl) _ c.plane_within.ensures c.if-not-plane_within.false ∙ l.invariant.1,
+      holds plane_within _ _ _ (next (plane_at a.view.now) a.count l.i _ (omega arith) refl) _ c.plane_within.ensures (ap not c.if-not-plane_within.false) ∙ l.invariant.1,
     )
 
 pub returns : goal.returns

@@ -1,13 +1,9 @@
 -- `planes_within` meets its contract: the planes left decide. Assumes nothing.
-use mathlib.Core.Path.{◌≡◌, refl, ◌∙◌}
+use mathlib.Core.Path.{◌≡◌}
 use Prim.Native.Nat.{◌-◌, ◌≤◌}
-use native.Mathlib.Omega.{arith}
-use borrow.Author.Rules.{rules}
 use lib.ListN.{drop}
 use Rattle.number.specs.Every.{every}
-use Rattle.number.proofs.Tabulate.{next, none}
-use Rattle.number.proofs.ListLoops.{fails, holds, all_hold}
-use Rattle.whole.specs.SegmentCall.{plane_at, planes_of, plane_within}
+use Rattle.whole.specs.SegmentCall.{planes_of, plane_within}
 use Rattle.whole.proofs.view.planes_within.Given as goal
 
 abbrev pub invariant-loop-i : goal.invariant-loop-i

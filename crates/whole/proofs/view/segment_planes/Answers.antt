@@ -6,7 +6,6 @@ use borrow.Author.Tests.{le-leb, lt-leb}
 use lib.ListN.{length}
 use Rattle.number.specs.Every.{every}
 use Rattle.whole.specs.SegmentCall.{planes_of, view_length, plane_within}
-use borrow.Author.Rules.{rules}
 use Rattle.whole.proofs.view.segment_planes.Goals as goal
 
 pub returns-then-view-view_length : goal.returns-then-view-view_length

@@ -1,13 +1,12 @@
 -- `within` meets its contract: the limit alone is negated, and it is small. Assumes nothing.
 use mathlib.Core.Path.{◌∙◌}
 use mathlib.Core.Bool.{◌&&◌}
-use borrow.Author.Rules.{rules}
 use lib.Dec.{lit<}
 use lib.IntN.{pos}
 use lib.Signed.{le_z}
 use mir.Syntax.{w32}
 use mir.ValLaws.{to_z-of_z}
-use Rattle.whole.proofs.Registers.{itself, read, held_fits, negation}
+use Rattle.whole.proofs.Registers.{itself, read, negation}
 use Rattle.whole.proofs.Limits.{within_is, from_minus}
 use Rattle.whole.proofs.view.within.Goals as goal
 

@@ -1,6 +1,5 @@
 -- `Span::cut` meets its contract: each way out by the sides that the ends are on and by the comparison with the crossing. Assumes nothing.
 use mathlib.Core.Path.{refl, sym, ◌∙◌}
-use borrow.Author.Rules.{rules}
 use Rattle.whole.specs.Segment.{crossing_at}
 use Rattle.whole.proofs.Spans.{goes_out, comes_in, small_crossing, cut_is, later_is, not_later, earlier_is, not_earlier, side, crossing_read}
 use Rattle.whole.proofs.fraction.Span.cut.Goals as goal
