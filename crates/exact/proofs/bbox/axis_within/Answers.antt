@@ -6,7 +6,6 @@ use mir.Syntax.{w32}
 use mir.ValLaws.{to_z-of_z}
 use Rattle.whole.specs.SegmentCall.{number_at}
 use Rattle.whole.proofs.Limits.{tested}
-use borrow.Author.Rules.{rules}
 use Rattle.exact.proofs.bbox.axis_within.Goals as goal
 
 pub returns : goal.returns

@@ -3,7 +3,7 @@ use mathlib.Core.Path.{◌≡◌, sym, ap, ◌∙◌}
 use mathlib.Core.Bool.{Bool, true, ◌&&◌}
 use Prim.Native.Nat.{◌≤◌}
 use native.Mathlib.Omega.{arith}
-use borrow.Author.Tests.{not-true, not-false, le-leb}
+use borrow.Author.Tests.{le-leb}
 use lib.Dec.{leb}
 use lib.ListN.{length}
 use Rattle.number.specs.Limits.{fewest_planes}
@@ -12,7 +12,6 @@ use Rattle.whole.specs.SegmentCall.{number_at, planes_of, view_length, plane_wit
 use Rattle.whole.proofs.Limits.{counted}
 use Rattle.exact.specs.BBoxCall.{box_within}
 use Rattle.exact.proofs.Calls.{other_box, too_short, too_few, too_many, other_length, no_room, off_grid, on_grid_lem}
-use borrow.Author.Rules.{rules}
 use Rattle.exact.proofs.bbox.checked.Goals as goal
 
 pub returns-then-bounds-ne-RANGE_LENGTH : goal.returns-then-bounds-ne-RANGE_LENGTH

@@ -1,13 +1,11 @@
 -- `intersects_bbox` meets its contract: what the checks refuse, and what the search leaves. Assumes nothing.
 use mathlib.Core.Path.{refl, sym, ap, ◌∙◌}
 use native.Mathlib.Omega.{arith}
-use borrow.Author.Tests.{not-true}
 use lib.ListN.{length}
 use Rattle.number.specs.Answer.{counted_of, refused, outcome}
 use Rattle.exact.proofs.Constraints.{constraints}
 use Rattle.exact.proofs.Tried.{is_none, is_some}
 use Rattle.exact.proofs.Calls.{passed, answers, none_shares, it_shares}
-use borrow.Author.Rules.{rules}
 use Rattle.exact.proofs.bbox.intersects_bbox.Goals as goal
 
 pub returns-in-Refused : goal.returns-in-Refused

@@ -4,7 +4,6 @@ use lib.Dec.{lit≤}
 use lib.ListN.{set}
 use Rattle.exact.proofs.Machine.{known}
 use Rattle.exact.proofs.Calls.{four_put}
-use borrow.Author.Rules.{rules}
 use Rattle.exact.proofs.bbox.put.Goals as goal
 
 pub returns : goal.returns

@@ -1,13 +1,6 @@
 -- `face` meets its contract: a face at a least coordinate, and one at a greatest. Assumes nothing.
-use mathlib.Core.Path.{sym, subst}
-use Prim.Native.Nat.{◌≤◌}
 use native.Mathlib.Omega.{arith}
-use lib.Dec.{lit≤}
-use lib.IntN.{ℤ, nat_abs}
-use Rattle.number.specs.Limits.{distance_limit}
-use Rattle.exact.proofs.Machine.{turned_fits}
 use Rattle.exact.proofs.Reading.{face_number, lower_read, upper_read}
-use borrow.Author.Rules.{rules}
 use Rattle.exact.proofs.constraint.face.Goals as goal
 
 pub number-at-requires : goal.number-at-requires

@@ -2,7 +2,6 @@
 use native.Mathlib.Omega.{arith}
 use lib.Dec.{lit<}
 use Rattle.exact.proofs.Farthest.{near, farthest_read}
-use borrow.Author.Rules.{rules}
 use Rattle.exact.proofs.constraint.farthest.Goals as goal
 
 pub number-requires : goal.number-requires

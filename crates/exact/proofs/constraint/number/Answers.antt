@@ -2,8 +2,7 @@
 use lib.Dec.{lit<}
 use Rattle.number.specs.Limits.{distance_limit}
 use Rattle.whole.specs.SegmentCall.{number_at}
-use Rattle.whole.proofs.Registers.{widened, widens}
-use borrow.Author.Rules.{rules}
+use Rattle.whole.proofs.Registers.{widened}
 use Rattle.exact.proofs.constraint.number.Goals as goal
 
 pub returns : goal.returns

@@ -1,7 +1,6 @@
 -- `plane_at` meets its contract: four numbers from the place where the plane begins. Assumes nothing.
 use native.Mathlib.Omega.{arith}
 use Rattle.exact.proofs.Reading.{entry_0, entry_1, entry_2, entry_3, plane_read}
-use borrow.Author.Rules.{rules}
 use Rattle.exact.proofs.constraint.plane_at.Goals as goal
 
 pub number-requires : goal.number-requires

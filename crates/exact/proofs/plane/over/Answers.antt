@@ -1,7 +1,5 @@
 -- `over` meets its contract: where k is below 0 all signs are turned. Assumes nothing.
-use lib.Dec.{lit≤}
-use Rattle.exact.specs.Steps.{largest_coordinate, largest_determinant}
-use Rattle.exact.proofs.Machine.{turned_fits, over_behind, over_front}
+use Rattle.exact.proofs.Machine.{over_behind, over_front}
 use Rattle.exact.proofs.plane.over.Goals as goal
 
 pub returns-then-k-lt0 : goal.returns-then-k-lt0

@@ -2,7 +2,6 @@
 use mathlib.Core.Path.{sym}
 use Rattle.exact.proofs.Seeing.{clash}
 use Rattle.exact.proofs.Tried.{is_none, is_some}
-use borrow.Author.Rules.{rules}
 use Rattle.exact.proofs.search.is_good.Goals as goal
 
 pub returns-then-p-eq0 : goal.returns-then-p-eq0

@@ -1,8 +1,7 @@
 -- `reaches` meets its contract: where the farthest corner is behind a plane, all of the box is. Assumes nothing.
 use mathlib.Core.Path.{sym, subst}
-use Prim.Native.Nat.{◌+◌, ◌-◌, ◌≤◌}
+use Prim.Native.Nat.{◌+◌}
 use native.Mathlib.Omega.{arith}
-use borrow.Author.Tests.{not-true}
 use Rattle.exact.specs.Steps.{vec_of, faces, SmallPoint}
 use Rattle.exact.proofs.Machine.{plane_sized}
 use Rattle.exact.proofs.Constraints.{fewer_constraints}
@@ -10,7 +9,6 @@ use Rattle.exact.proofs.Seeing.{clash}
 use Rattle.exact.proofs.Tried.{read_within}
 use Rattle.exact.proofs.Farthest.{farthest_small}
 use Rattle.exact.proofs.Taken.{behind_none}
-use borrow.Author.Rules.{rules}
 use Rattle.exact.proofs.search.reaches.Goals as goal
 
 pub loop-i-init : goal.loop-i-init

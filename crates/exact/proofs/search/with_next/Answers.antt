@@ -9,7 +9,6 @@ use Rattle.exact.proofs.Seeing.{it_holds, it_fails}
 use Rattle.exact.proofs.Tried.{read_within, it_found}
 use Rattle.exact.proofs.Farthest.{farthest_small, corner_found}
 use Rattle.exact.proofs.Taken.{more_found, none_more}
-use borrow.Author.Rules.{rules}
 use Rattle.exact.proofs.search.with_next.Goals as goal
 
 pub holds-requires : goal.holds-requires

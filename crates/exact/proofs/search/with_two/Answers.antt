@@ -1,10 +1,9 @@
 -- `with_two` meets its contract: with none of those before it is there a good one. Assumes nothing.
-use Prim.Native.Nat.{ℕ, ◌-◌, ◌≤◌, ◌<◌}
+use Prim.Native.Nat.{ℕ, ◌<◌}
 use native.Mathlib.Omega.{arith}
 use Rattle.exact.specs.Steps.{Good}
 use Rattle.exact.proofs.Seeing.{up_to}
 use Rattle.exact.proofs.Tried.{is_none, is_some, it_found, it_found_none}
-use borrow.Author.Rules.{rules}
 use Rattle.exact.proofs.search.with_two.Goals as goal
 
 pub loop-second-init : goal.loop-second-init
@@ -24,7 +23,7 @@ loop-second-preserved c =
     let r = c.with_third-p in
     let l = c.loop-second in (
       omega arith,
-      up_to (λ b. (LOOK-PLACE c : ℕ) → LOOK-PLACE c < b → ¬ Good c.args.view.now c.args.bounds.now c.args.n b LOOK-PLACE c) l.second l.invariant.1
+      up_to (λ b. (d : ℕ) → d < b → ¬ Good c.args.view.now c.args.bounds.now c.args.n b d) l.second l.invariant.1
           (r.ensures.none (is_none r.result.k r.ensures.size c.if-p-ne0.false)),
     )
 

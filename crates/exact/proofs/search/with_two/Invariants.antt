@@ -1,10 +1,6 @@
 -- `with_two` meets its contract: with none of those before it is there a good one. Assumes nothing.
 use Prim.Native.Nat.{ℕ, ◌-◌, ◌≤◌, ◌<◌}
-use native.Mathlib.Omega.{arith}
 use Rattle.exact.specs.Steps.{Good}
-use Rattle.exact.proofs.Seeing.{up_to}
-use Rattle.exact.proofs.Tried.{is_none, is_some, it_found, it_found_none}
-use borrow.Author.Rules.{rules}
 use Rattle.exact.proofs.search.with_two.Given as goal
 
 abbrev pub invariant-loop-second : goal.invariant-loop-second

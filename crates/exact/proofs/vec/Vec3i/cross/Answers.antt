@@ -1,6 +1,5 @@
 -- `Vec3i::cross` meets its contract: three minors. Assumes nothing.
 use Rattle.exact.proofs.Machine.{cross_read}
-use borrow.Author.Rules.{rules}
 use Rattle.exact.proofs.vec.Vec3i.cross.Goals as goal
 
 pub returns : goal.returns
