@@ -3,6 +3,7 @@ use mathlib.Core.Path.{◌≡◌, sym, ap, ◌∙◌}
 use mathlib.Core.Bool.{Bool, true, ◌&&◌}
 use Prim.Native.Nat.{◌≤◌}
 use native.Mathlib.Omega.{arith}
+use borrow.Author.Rules.{rules}
 use borrow.Author.Tests.{le-leb}
 use lib.Dec.{leb}
 use lib.ListN.{length}
@@ -35,7 +36,7 @@ returns-then-count-lt-FEWEST_PLANES c =
     let r = c.args.room in
     let l : view_length fewest_planes ≤ length v = omega (arith, c.view_length.ensures, c.if-view-view_length.false) in
     let n = c.count_of-count.result in
-    let e = counted (number_at v 0) n c.count_of-arg-1.given c.count_of-count.ensures in
+    let e = counted (number_at v 0) n (search rules) c.count_of-count.ensures in
     too_few v b r c.if-bounds-ne-RANGE_LENGTH.false l n e c.if-count-lt-FEWEST_PLANES.true
 
 pub returns-then-count-gt-MOST_PLANES : goal.returns-then-count-gt-MOST_PLANES
@@ -45,7 +46,7 @@ returns-then-count-gt-MOST_PLANES c =
     let r = c.args.room in
     let l : view_length fewest_planes ≤ length v = omega (arith, c.view_length.ensures, c.if-view-view_length.false) in
     let n = c.count_of-count.result in
-    let e = counted (number_at v 0) n c.count_of-arg-1.given c.count_of-count.ensures in
+    let e = counted (number_at v 0) n (search rules) c.count_of-count.ensures in
     too_many v b r c.if-bounds-ne-RANGE_LENGTH.false l n e c.if-count-lt-FEWEST_PLANES.false c.if-count-gt-MOST_PLANES.true
 
 pub returns-then-view-view_length-2 : goal.returns-then-view-view_length-2
@@ -55,7 +56,7 @@ returns-then-view-view_length-2 c =
     let r = c.args.room in
     let l : view_length fewest_planes ≤ length v = omega (arith, c.view_length.ensures, c.if-view-view_length.false) in
     let n = c.count_of-count.result in
-    let e = counted (number_at v 0) n c.count_of-arg-1.given c.count_of-count.ensures in
+    let e = counted (number_at v 0) n (search rules) c.count_of-count.ensures in
     other_length v b r c.if-bounds-ne-RANGE_LENGTH.false l n e c.if-count-lt-FEWEST_PLANES.false c.if-count-gt-MOST_PLANES.false (λ x. c.if-view-view_length-2.true (x ∙ sym c.view_length-2.ensures))
 
 pub returns-then-room-ne-WITNESS_LENGTH : goal.returns-then-room-ne-WITNESS_LENGTH
@@ -65,7 +66,7 @@ returns-then-room-ne-WITNESS_LENGTH c =
     let r = c.args.room in
     let l : view_length fewest_planes ≤ length v = omega (arith, c.view_length.ensures, c.if-view-view_length.false) in
     let n = c.count_of-count.result in
-    let e = counted (number_at v 0) n c.count_of-arg-1.given c.count_of-count.ensures in
+    let e = counted (number_at v 0) n (search rules) c.count_of-count.ensures in
     no_room v b r c.if-bounds-ne-RANGE_LENGTH.false l n e c.if-count-lt-FEWEST_PLANES.false c.if-count-gt-MOST_PLANES.false (c.if-view-view_length-2.false ∙ c.view_length-2.ensures) c.if-room-ne-WITNESS_LENGTH.true
 
 pub returns-then-not-segment_planes-axis_within : goal.returns-then-not-segment_planes-axis_within
@@ -75,7 +76,7 @@ returns-then-not-segment_planes-axis_within c =
     let r = c.args.room in
     let l : view_length fewest_planes ≤ length v = omega (arith, c.view_length.ensures, c.if-view-view_length.false) in
     let n = c.count_of-count.result in
-    let e = counted (number_at v 0) n c.count_of-arg-1.given c.count_of-count.ensures in
+    let e = counted (number_at v 0) n (search rules) c.count_of-count.ensures in
     let k = c.if-view-view_length-2.false ∙ c.view_length-2.ensures in
     let long : leb (view_length n) (length v) ≡ true = le-leb (view_length n) (length v) (omega (arith, k)) in
     let g : c.segment_planes.result && (c.axis_within.result && c.axis_within-2.result && c.axis_within-3.result) ≡ every plane_within (planes_of v n) && box_within b =
@@ -90,7 +91,7 @@ returns c =
     let r = c.args.room in
     let l : view_length fewest_planes ≤ length v = omega (arith, c.view_length.ensures, c.if-view-view_length.false) in
     let n = c.count_of-count.result in
-    let e = counted (number_at v 0) n c.count_of-arg-1.given c.count_of-count.ensures in
+    let e = counted (number_at v 0) n (search rules) c.count_of-count.ensures in
     let k = c.if-view-view_length-2.false ∙ c.view_length-2.ensures in
     let long : leb (view_length n) (length v) ≡ true = le-leb (view_length n) (length v) (omega (arith, k)) in
     let g : c.segment_planes.result && (c.axis_within.result && c.axis_within-2.result && c.axis_within-3.result) ≡ every plane_within (planes_of v n) && box_within b =
