@@ -16,7 +16,7 @@ scaled : (x y : Float) → x ≡ y → x ⊗ tenth ⊘ tenth ≡ y ⊗ camera_un
 scaled x y e t = e t ⊗ unit_bits t ⊘ unit_bits t
 
 pub returns-in-Perspective : goal.returns-in-Perspective
-returns-in-Perspective c = scaled _ _ c.widen.ensures ∙ sym (ap (λ (p : Projection). to_aperture p c.args.focal-length) c.in-Perspective.is)
+returns-in-Perspective c = scaled _ _ c.widen.ensures ∙ sym (ap (λ (p : Projection). to_aperture p c.args.focal_length) c.in-Perspective.is)
 
 pub returns-in-Orthographic : goal.returns-in-Orthographic
-returns-in-Orthographic c = (λ t. one_bits t ⊘ unit_bits t) ∙ sym (ap (λ (p : Projection). to_aperture p c.args.focal-length) c.in-Orthographic.is)
+returns-in-Orthographic c = (λ t. one_bits t ⊘ unit_bits t) ∙ sym (ap (λ (p : Projection). to_aperture p c.args.focal_length) c.in-Orthographic.is)

@@ -33,21 +33,21 @@ module _ (i : Inverted) (r : Recovered) (f : Float) where
 pub returns-in_default : goal.returns-in_default
 returns-in_default c =
     let a = c.args in
-    by_both a.inverted a.recovered a.focal-length (sym c.in_default.is) refl
+    by_both a.inverted a.recovered a.focal_length (sym c.in_default.is) refl
 
 pub returns-in_default-recovered : goal.returns-in_default-recovered
 returns-in_default-recovered c =
     let a = c.args in
-    by_both a.inverted a.recovered a.focal-length (sym c.in-Matrix.is) (sym c.in_default-recovered.is)
+    by_both a.inverted a.recovered a.focal_length (sym c.in-Matrix.is) (sym c.in_default-recovered.is)
 
 pub returns-then-not-is_finite : goal.returns-then-not-is_finite
 returns-then-not-is_finite c =
     let a = c.args in
-    by_test a.inverted a.recovered a.focal-length _ _ _ _ false (sym c.in-Matrix.is) (sym c.in-Params.is) c.seeing-camera.ensures
+    by_test a.inverted a.recovered a.focal_length _ _ _ _ false (sym c.in-Matrix.is) (sym c.in-Params.is) c.seeing-camera.ensures
     c.is_finite.ensures c.if-not-is_finite.true
 
 pub returns : goal.returns
 returns c =
     let a = c.args in
-    by_test a.inverted a.recovered a.focal-length _ _ _ _ true (sym c.in-Matrix.is) (sym c.in-Params.is) c.seeing-camera.ensures
+    by_test a.inverted a.recovered a.focal_length _ _ _ _ true (sym c.in-Matrix.is) (sym c.in-Params.is) c.seeing-camera.ensures
     c.is_finite.ensures c.if-not-is_finite.false

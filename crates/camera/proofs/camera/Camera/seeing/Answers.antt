@@ -45,5 +45,5 @@ module _ (m : Mat4d) (p : ProjectionParams) (f s : Float) (q : s ≡ to_aperture
 pub returns : goal.returns
 returns c =
     let a = c.args in
-    seen a.transform a.params a.focal-length _ c.to_aperture-scale.ensures c.narrow.ensures c.narrow-2.ensures
+    seen a.transform a.params a.focal_length _ c.to_aperture-scale.ensures c.narrow.ensures c.narrow-2.ensures
     c.narrow-3.ensures c.narrow-4.ensures c.narrow-5.ensures c.narrow-6.ensures
