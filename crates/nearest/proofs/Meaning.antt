@@ -47,8 +47,8 @@ module _ (s : List Float) (p : Vec3d) where
   best i n = record {
     passed = n.place;
     passes = is_true (is_candidate s p i) n.candidate;
-    least = λ j l t. refuted (lt (distance_at s p j) (distance_at s p i)) (λ h. lt_not_le _ _ h (n.nothing-nearer j l (holds t)));
-    first = λ j l t. is_true (lt (distance_at s p i) (distance_at s p j)) (n.earlier-further j l (holds t));
+    least = λ j l t. refuted (lt (distance_at s p j) (distance_at s p i)) (λ h. lt_not_le _ _ h (n.nothing_nearer j l (holds t)));
+    first = λ j l t. is_true (lt (distance_at s p i) (distance_at s p j)) (n.earlier_further j l (holds t));
   }
 
 pub nearest_means : NearestMeans

@@ -68,8 +68,8 @@ loop-i-preserved c =
     let l = c.loop-i in
     let a = c.args in (
       omega arith,
-      next _ l.i _ l.found l.out LOOK c.is_Within.result l.invariant.1 (omega arith)
-          (LOOK c.is_Within.ensures ∙ within_at a.ranges.now a.p a.limit l.i _ c.range_at.ensures),
+      next _ l.i _ l.found l.out c.is_within.result l.invariant.1 (omega arith)
+          (c.is_within.ensures ∙ within_at a.ranges.now a.p a.limit l.i _ c.range_at.ensures),
     )
 
 pub shape_of-out : goal.shape_of-out
