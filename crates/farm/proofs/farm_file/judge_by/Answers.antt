@@ -65,11 +65,11 @@ enough : (b : List ℕ) → Measured b → length (file_numbers b) ≤ numbers_r
 enough b r = omega (arith, numbers_long b r, within b r, at_most b r.formed)
 
 -- a check that was passed, and one that was not
-passed : {r t : Bool} → r ≡ t → not r ≡ false → t ≡ true
-passed {r} e n = sym e ∙ not-false r n
+passed : {r t : Bool} → r ≡ t → r ≡ true → t ≡ true
+passed e n = sym e ∙ n
 
-failed : {r t : Bool} → r ≡ t → not r ≡ true → t ≡ false
-failed {r} e n = sym e ∙ not-true r n
+failed : {r t : Bool} → r ≡ t → r ≡ false → t ≡ false
+failed e n = sym e ∙ n
 
 pub returns-then-room-ne-NUMBERS_ROOM : goal.returns-then-room-ne-NUMBERS_ROOM
 returns-then-room-ne-NUMBERS_ROOM c =
@@ -96,7 +96,7 @@ pub answer-requires : goal.answer-requires
 answer-requires c =
     let g = c.args in
     let m = measured g.file.now (passed c.is_well_formed.ensures c.if-not-is_well_formed.false) _ (ap held_of (sym c.in-Planes.is) ∙ c.plane_count.ensures) in
-    ((m.0, m.1), (omega (arith, enough g.file.now m.0, c.if-room-ne-NUMBERS_ROOM.false), c.if-out-ne-SLOT_COUNT.false))
+    record { measured = (m.0, m.1); file_in_bounds = (omega (arith, enough g.file.now m.0, c.if-room-ne-NUMBERS_ROOM.false), c.if-out-ne-SLOT_COUNT.false) }
 
 pub returns-in-Planes : goal.returns-in-Planes
 returns-in-Planes c =

@@ -16,20 +16,20 @@ is_line k v w e = ap (λ (t : Bool). decimal k ++ yes_or_no t) (sym e)
 
 pub returns-then-yes : goal.returns-then-yes
 returns-then-yes c =
-    let given = LOOK number.before.before.before.args in
+    let given = c.args in
     let t = given.text.now in
     let k = decimal given.section in
     let d = short_decimal given.section in
     put_meant t given.at (k ++ yes_or_no true) _ _
-    (put_next t given.at k _ _ (has_room_lem t given.at k _ _ (omega (arith, d)) LOOK number.put-decimal.ensures) (yes_or_no true) _ _ (omega (arith, d)) c.put.ensures)
-    _ (is_line given.section given.yes true LOOK tested.if1.true)
+    (put_next t given.at k _ _ (has_room_lem t given.at k _ _ (omega (arith, d)) c.put_decimal-behind.ensures) (yes_or_no true) _ _ (omega (arith, d)) c.put.ensures)
+    _ (is_line given.section given.yes true c.if-yes.true)
 
 pub returns : goal.returns
 returns c =
-    let given = LOOK number.before.before.before.args in
+    let given = c.args in
     let t = given.text.now in
     let k = decimal given.section in
     let d = short_decimal given.section in
     put_meant t given.at (k ++ yes_or_no false) _ _
-    (put_next t given.at k _ _ (has_room_lem t given.at k _ _ (omega (arith, d)) LOOK number.put-decimal.ensures) (yes_or_no false) _ _ (omega (arith, d)) c.put-2.ensures)
-    _ (is_line given.section given.yes false LOOK tested.if1.false)
+    (put_next t given.at k _ _ (has_room_lem t given.at k _ _ (omega (arith, d)) c.put_decimal-behind.ensures) (yes_or_no false) _ _ (omega (arith, d)) c.put-2.ensures)
+    _ (is_line given.section given.yes false c.if-yes.false)

@@ -16,16 +16,15 @@ pub slice_bounds-answer_by-end : goal.slice_bounds-answer_by-end
 slice_bounds-answer_by-end c = c.load_sections-taken.ensures.1
 
 pub slice_bounds-answer_by-end-2 : goal.slice_bounds-answer_by-end-2
-slice_bounds-answer_by-end-2 c = sym (length-take-le _ _ LOOK c.before.before.before.load-sections.ensures.1)
+slice_bounds-answer_by-end-2 c = sym (length-take-le _ _ c.load_sections-taken.ensures.1)
 
 pub answer_by-requires : goal.answer_by-requires
 answer_by-requires c =
-    let start = LOOK c.before.before.before.before.before.before.before.before.before in
-    (start.requires.0, (LOOK c.before.before.before.before.load-sections.ensures.2, start.requires.1.1))
+    record { measured = c.requires.measured; numbers_value = (c.load_sections-taken.ensures.2, c.requires.file_in_bounds.1) }
 
 pub returns : goal.returns
 returns c =
-    (c.answer_by.ensures, in_front _ _ _ LOOK loaded.load-sections.ensures.1 LOOK loaded.load-sections.ensures.2)
+    (c.answer_by.ensures, in_front _ _ _ c.load_sections-taken.ensures.1 c.load_sections-taken.ensures.2)
 
 pub load_sections-taken-requires : goal.load_sections-taken-requires
-load_sections-taken-requires c = (c.requires.0.0.formed, c.requires.1.0)
+load_sections-taken-requires c = (c.requires.measured.0.formed, c.requires.file_in_bounds.0)

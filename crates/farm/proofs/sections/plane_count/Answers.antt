@@ -70,11 +70,11 @@ module _ (b : List ℕ) (s : Section) (q : s ≡ volume_section b) (l : ℕ) (k 
         boxes_decide : (y : Bool) → r ≡ y → sized b ≡ y
         boxes_decide y d = sized_by true (eq-eqb _ _ f) ∙ sym g ∙ d
 
-        other_boxes : not r ≡ true → refused 10 ≡ sized_planes b
-        other_boxes d = by true true false there is.0 (boxes_decide false (not-true r d))
+        other_boxes : r ≡ false → refused 10 ≡ sized_planes b
+        other_boxes d = by true true false there is.0 (boxes_decide false d)
 
-        all_sized : not r ≡ false → outcome n ≡ sized_planes b
-        all_sized d = ap outcome is.1 ∙ by true true true there is.0 (boxes_decide true (not-false r d))
+        all_sized : r ≡ true → outcome n ≡ sized_planes b
+        all_sized d = ap outcome is.1 ∙ by true true true there is.0 (boxes_decide true d)
 
 pub returns-then-size-volume_length : goal.returns-then-size-volume_length
 returns-then-size-volume_length c =

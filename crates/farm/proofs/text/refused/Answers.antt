@@ -24,4 +24,4 @@ module _ (t : List ℕ) (h : 11 ≤ length t) (n m : ℕ) (e : n ≡ m) where
 
 pub returns : goal.returns
 returns c =
-    line (replicate text_room 0) (omega arith) _ _ LOOK number.number.ensures _ _ LOOK named.put.ensures _ _ LOOK numbered.put-decimal.ensures _ _ c.put-size.ensures
+    line (replicate text_room 0) (omega arith) _ _ c.number.ensures _ _ c.put-named.ensures _ _ c.put_decimal-numbered.ensures _ _ c.put-size.ensures

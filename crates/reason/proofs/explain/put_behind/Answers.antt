@@ -61,9 +61,9 @@ returns-then-yes c =
 
 pub returns-then-is_empty : goal.returns-then-is_empty
 returns-then-is_empty c =
-    let g = LOOK start.args in
-    no_range g.volume.now g.bbox.now g.yes LOOK start.requires.1 g.text.now g.at LOOK start.requires.0 LOOK first.if1.false
-    (sym (LOOK range.is-empty.ensures ∙ ap is_empty_lem LOOK read.from-record.ensures) ∙ LOOK tested.if2.true) _ _ c.put.ensures
+    let g = c.args in
+    no_range g.volume.now g.bbox.now g.yes c.requires.1 g.text.now g.at c.requires.0 c.if-yes.false
+    (sym (c.is_empty.ensures ∙ ap is_empty_lem c.from_record-b.ensures) ∙ c.if-is_empty.true) _ _ c.put.ensures
 
 pub returns-in-Count : goal.returns-in-Count
 returns-in-Count c =

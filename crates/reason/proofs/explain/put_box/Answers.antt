@@ -107,10 +107,10 @@ put_exact-noted-requires c =
 
 pub returns : goal.returns
 returns c =
-    let g = LOOK start.args in
+    let g = c.args in
     λ n h. record {
-      answer = verdict_of LOOK exact.exact-bbox.result;
-      called = LOOK exact.exact-bbox.ensures;
-      put = whole g.volume.now g.bbox.now g.yes LOOK start.requires.1 g.text.now g.at LOOK start.requires.0 g.section (verdict_of LOOK exact.exact-bbox.result) _ _ LOOK first.put-decimal.ensures _ _
-          LOOK second.put-verdict.ensures _ _ LOOK third.put-behind.ensures n h _ _ LOOK fourth.put-exact.ensures _ _ c.put.ensures;
+      answer = verdict_of c.exact_bbox-exact.result;
+      called = c.exact_bbox-exact.ensures;
+      put = whole g.volume.now g.bbox.now g.yes c.requires.1 g.text.now g.at c.requires.0 g.section (verdict_of c.exact_bbox-exact.result) _ _ c.put_decimal-numbered.ensures _ _
+          c.put_verdict-judged.ensures _ _ c.put_behind-told.ensures n h _ _ c.put_exact-noted.ensures _ _ c.put.ensures;
     }

@@ -51,8 +51,8 @@ put_box-at-requires c =
     let l = c.loop-i in
     let g = c.args in
     let h : l.i < length g.slots.now = omega arith in (
-      fits g.volume.now g.boxes.now g.slots.now c.requires.1.0 g.text.now c.requires.1.1 l.i h l.at l.text l.invariant.1 l.invariant.2,
-      its_verdict g.volume.now g.boxes.now g.slots.now c.requires.1.0 g.text.now c.requires.1.1 l.i h l.at l.text l.invariant.1 l.invariant.2,
+      fits g.volume.now g.boxes.now g.slots.now c.requires.all_seen.0 g.text.now c.requires.all_seen.1 l.i h l.at l.text l.invariant.1 l.invariant.2,
+      its_verdict g.volume.now g.boxes.now g.slots.now c.requires.all_seen.0 g.text.now c.requires.all_seen.1 l.i h l.at l.text l.invariant.1 l.invariant.2,
     )
 
 pub loop-i-preserved : goal.loop-i-preserved
@@ -61,8 +61,8 @@ loop-i-preserved c =
     let g = c.args in
     let h : l.i < length g.slots.now = omega arith in (
       omega arith,
-      one_more g.volume.now g.boxes.now g.slots.now c.requires.1.0 g.text.now c.requires.1.1 l.i h l.at l.text l.invariant.1 l.invariant.2 _ _ c.put_box-at.ensures,
-      as_long g.volume.now g.boxes.now g.slots.now c.requires.1.0 g.text.now c.requires.1.1 l.i h l.at l.text l.invariant.1 l.invariant.2 _ _ c.put_box-at.ensures,
+      one_more g.volume.now g.boxes.now g.slots.now c.requires.all_seen.0 g.text.now c.requires.all_seen.1 l.i h l.at l.text l.invariant.1 l.invariant.2 _ _ c.put_box-at.ensures,
+      as_long g.volume.now g.boxes.now g.slots.now c.requires.all_seen.0 g.text.now c.requires.all_seen.1 l.i h l.at l.text l.invariant.1 l.invariant.2 _ _ c.put_box-at.ensures,
     )
 
 pub returns : goal.returns

@@ -23,17 +23,17 @@ returns-then-yes c =
 
 pub returns-then-yes-2 : goal.returns-then-yes-2
 returns-then-yes-2 c =
-    let g = LOOK start.args in
+    let g = c.args in
     let t = g.text.now in
-    put_meant t g.at exact_no _ _ (has_room_lem t g.at exact_no _ _ (omega (arith, LOOK start.requires)) c.put-then-yes-2.ensures) _
-    (by g.yes true g.exact No LOOK tested.if2.true LOOK told.enum-told2.given.1)
+    put_meant t g.at exact_no _ _ (has_room_lem t g.at exact_no _ _ (omega (arith, c.requires)) c.put-then-yes-2.ensures) _
+    (by g.yes true g.exact No c.if-yes-2.true c.in-No.is)
 
 pub returns-else-yes : goal.returns-else-yes
 returns-else-yes c =
-    let g = LOOK start.args in
+    let g = c.args in
     let t = g.text.now in
-    put_meant t g.at exact_yes _ _ (has_room_lem t g.at exact_yes _ _ (omega (arith, LOOK start.requires)) c.put.ensures) _
-    (by g.yes false g.exact Yes LOOK tested.if1.false LOOK told.enum_told.given.1)
+    put_meant t g.at exact_yes _ _ (has_room_lem t g.at exact_yes _ _ (omega (arith, c.requires)) c.put.ensures) _
+    (by g.yes false g.exact Yes c.if-yes.false c.in-Yes.is)
 
 pub returns-else-yes-2 : goal.returns-else-yes-2
 returns-else-yes-2 c =

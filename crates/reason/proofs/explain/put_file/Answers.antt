@@ -47,10 +47,10 @@ module _ (b : List ℕ) (c : ℕ) (slots : List ℕ) (a : FileAnswered b c slots
   size_is = ap (λ (t : Section). t.size / 8) q ∙ sym (as_many b _ _)
 
   boxes_long : c * box_length ≡ length boxes
-  boxes_long = ap (λ (k : ℕ). k * box_length) a.many ∙ sym (boxes_many b r.decreases)
+  boxes_long = ap (λ (k : ℕ). k * box_length) a.many ∙ sym (boxes_many b r.measured)
 
   front : InFront (v ++ boxes) numbers
-  front = subst (λ (l : List Float). InFront l numbers) (numbers_are b r.decreases) f
+  front = subst (λ (l : List Float). InFront l numbers) (numbers_are b r.measured) f
 
   volume_is : take size numbers ≡ v
   volume_is = first_part v boxes numbers front size size_is
@@ -73,9 +73,9 @@ module _ (b : List ℕ) (c : ℕ) (slots : List ℕ) (a : FileAnswered b c slots
       sym (get_or-map is_yes (take c slots) i 0) ∙ ap (λ (vs : List Bool). get_or vs i (is_yes 0)) (a.seen ∙ verdicts_are b a.verdicts a.answer)
       ∙ made_at (in_view b) b 1 (section_count b - 1) i (is_yes 0) l in
       let called =
-      box_answered v (plane_count b) (held b r.decreases) (section_finite b r.finite 0 (omega (arith, l))) x (box_long b r.decreases k (omega arith) (omega (arith, l)))
+      box_answered v (plane_count b) (held b r.measured) (section_finite b r.finite 0 (omega (arith, l))) x (box_long b r.measured k (omega arith) (omega (arith, l)))
       (box_flagged b r.flags k (omega arith) (omega (arith, l))) (section_finite b r.finite k (omega (arith, l))) in
-      ap outcome slot ∙ sym called ∙ ap (intersects_box_call v) (sym (box_at b r.decreases i l))
+      ap outcome slot ∙ sym called ∙ ap (intersects_box_call v) (sym (box_at b r.measured i l))
 
   all_seen : AllSeen (take size numbers) (take (size + c * box_length - size) (drop size numbers)) (take c slots)
   all_seen = subst (λ (w : List Float). AllSeen w (take (size + c * box_length - size) (drop size numbers)) (take c slots)) (sym volume_is)
@@ -85,38 +85,34 @@ module _ (b : List ℕ) (c : ℕ) (slots : List ℕ) (a : FileAnswered b c slots
   told t place l p =
       let u = subst (λ (w : List Float). BoxesPut v w (length (take c slots)) t place l) boxes_is
       (subst (λ (w : List Float). BoxesPut w (take (size + c * box_length - size) (drop size numbers)) (length (take c slots)) t place l) volume_is p) in
-      let o = u (plane_count b) (held b r.decreases) in
+      let o = u (plane_count b) (held b r.measured) in
       record {
         reasons = o.reasons;
-        allowed = subst (λ (xs : List (List Float)). Reasons v (file_planes b) xs o.reasons) (ap (λ (k : ℕ). records box_length k boxes) (lent ∙ a.many) ∙ boxes_are b r.decreases) o.allowed;
+        allowed = subst (λ (xs : List (List Float)). Reasons v (file_planes b) xs o.reasons) (ap (λ (k : ℕ). records box_length k boxes) (lent ∙ a.many) ∙ boxes_are b r.measured) o.allowed;
         lines = ap (take place) o.put.1 ∙ in_front t _ place (omega (arith, o.put.0));
       }
 
 pub slice_bounds-put_boxes-end : goal.slice_bounds-put_boxes-end
 slice_bounds-put_boxes-end c =
-    let start = LOOK at.before.before.before.before.before in
-    let g = start.args in
-    sym (length-take-le _ g.numbers.now (omega (arith, fits g.file.now g.count g.slots.now start.requires.0 g.numbers.now start.requires.1 _ LOOK at.section-at.ensures)))
+    let g = c.args in
+    sym (length-take-le _ g.numbers.now (omega (arith, fits g.file.now g.count g.slots.now c.requires.0 g.numbers.now c.requires.1 _ c.section_at.ensures)))
 
 pub slice_bounds-put_boxes-end-3 : goal.slice_bounds-put_boxes-end-3
 slice_bounds-put_boxes-end-3 c =
-    let start = LOOK c.before.before.before.before.before.before.before.before.before.before in
-    sym (length-take-le _ start.args.slots.now start.requires.0.all)
+    sym (length-take-le _ c.args.slots.now c.requires.0.all)
 
 pub put_boxes-requires : goal.put_boxes-requires
 put_boxes-requires c =
-    let start = LOOK at.before.before.before.before.before in
-    let g = start.args in
-    let n = lent g.file.now g.count g.slots.now start.requires.0 g.numbers.now start.requires.1 _ LOOK at.section-at.ensures in
-    let few = start.requires.0.few in
-    let long = boxes_long g.file.now g.count g.slots.now start.requires.0 g.numbers.now start.requires.1 _ LOOK at.section-at.ensures in
-    let are = ap length (boxes_is g.file.now g.count g.slots.now start.requires.0 g.numbers.now start.requires.1 _ LOOK at.section-at.ensures) in (
+    let g = c.args in
+    let n = lent g.file.now g.count g.slots.now c.requires.0 g.numbers.now c.requires.1 _ c.section_at.ensures in
+    let few = c.requires.0.few in
+    let long = boxes_long g.file.now g.count g.slots.now c.requires.0 g.numbers.now c.requires.1 _ c.section_at.ensures in
+    let are = ap length (boxes_is g.file.now g.count g.slots.now c.requires.0 g.numbers.now c.requires.1 _ c.section_at.ensures) in (
       (omega (arith, are, long, n), omega (arith, n, few)),
-      (all_seen g.file.now g.count g.slots.now start.requires.0 g.numbers.now start.requires.1 _ LOOK at.section-at.ensures, omega (arith, n, few, start.requires.2)),
+      (all_seen g.file.now g.count g.slots.now c.requires.0 g.numbers.now c.requires.1 _ c.section_at.ensures, omega (arith, n, few, c.requires.2)),
     )
 
 pub returns : goal.returns
 returns c =
-    let start = LOOK at.before.before.before.before.before in
-    let g = start.args in
-    told g.file.now g.count g.slots.now start.requires.0 g.numbers.now start.requires.1 _ LOOK at.section-at.ensures g.text.now _ _ c.put_boxes.ensures
+    let g = c.args in
+    told g.file.now g.count g.slots.now c.requires.0 g.numbers.now c.requires.1 _ c.section_at.ensures g.text.now _ _ c.put_boxes.ensures

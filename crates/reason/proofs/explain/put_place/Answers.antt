@@ -5,7 +5,6 @@ use mathlib.Core.List.{List, [], ◌∷◌, ◌++◌}
 use Prim.Native.Nat.{ℕ}
 use native.Mathlib.Omega.{arith}
 use borrow.Author.Rules.{rules}
-use borrow.Author.Tests.{not-true, not-false}
 use Rattle.farm.specs.Text.{decimal}
 use Rattle.farm.proofs.Texts.{put_next, put_meant, has_room_lem, short_decimal}
 use Rattle.reason.proofs.Texts.{no_bytes}
@@ -17,14 +16,14 @@ word k b = cond b (32 ∷ decimal k) []
 pub returns-then-not-told : goal.returns-then-not-told
 returns-then-not-told c =
     let t = c.args.text.now in
-    put_meant t c.args.at [] _ _ (no_bytes t c.args.at (omega (arith, c.requires))) _ (sym (ap (word c.args.place) (not-true c.args.told c.if-not-told.true)))
+    put_meant t c.args.at [] _ _ (no_bytes t c.args.at (omega (arith, c.requires))) _ (sym (ap (word c.args.place) c.if-not-told.true))
 
 pub returns : goal.returns
 returns c =
-    let t = LOOK start.args.text.now in
-    let k = LOOK start.args.place in
+    let t = c.args.text.now in
+    let k = c.args.place in
     let d = short_decimal k in
-    put_meant t LOOK start.args.at ((32 ∷ []) ++ decimal k) _ _
-    (put_next t LOOK start.args.at (32 ∷ []) _ _ (has_room_lem t LOOK start.args.at (32 ∷ []) _ _ (omega (arith, LOOK start.requires)) c.put-spaced.ensures) (decimal k) _ _
-    (omega (arith, d, LOOK start.requires)) c.put_decimal.ensures)
-    _ (sym (ap (word k) (not-false LOOK start.args.told LOOK tested.if1.false)))
+    put_meant t c.args.at ((32 ∷ []) ++ decimal k) _ _
+    (put_next t c.args.at (32 ∷ []) _ _ (has_room_lem t c.args.at (32 ∷ []) _ _ (omega (arith, c.requires)) c.put-spaced.ensures) (decimal k) _ _
+    (omega (arith, d, c.requires)) c.put_decimal.ensures)
+    _ (sym (ap (word k) c.if-not-told.false))

@@ -9,12 +9,12 @@ use Rattle.reason.proofs.explain.put_verdict.Goals as goal
 
 pub returns-then-yes : goal.returns-then-yes
 returns-then-yes c =
-    let t = LOOK start.args.text.now in
-    put_meant t LOOK start.args.at (verdict_word true) _ _ (has_room_lem t LOOK start.args.at (verdict_word true) _ _ (omega (arith, LOOK start.requires)) c.put.ensures) _
-    (sym (ap verdict_word LOOK tested.if1.true))
+    let t = c.args.text.now in
+    put_meant t c.args.at (verdict_word true) _ _ (has_room_lem t c.args.at (verdict_word true) _ _ (omega (arith, c.requires)) c.put.ensures) _
+    (sym (ap verdict_word c.if-yes.true))
 
 pub returns : goal.returns
 returns c =
-    let t = LOOK start.args.text.now in
-    put_meant t LOOK start.args.at (verdict_word false) _ _ (has_room_lem t LOOK start.args.at (verdict_word false) _ _ (omega (arith, LOOK start.requires)) c.put-2.ensures) _
-    (sym (ap verdict_word LOOK tested.if1.false))
+    let t = c.args.text.now in
+    put_meant t c.args.at (verdict_word false) _ _ (has_room_lem t c.args.at (verdict_word false) _ _ (omega (arith, c.requires)) c.put-2.ensures) _
+    (sym (ap verdict_word c.if-yes.false))

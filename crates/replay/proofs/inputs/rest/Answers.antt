@@ -10,4 +10,4 @@ pub returns-then-count-s : goal.returns-then-count-s
 returns-then-count-s c = all_that_follows c.args.s.now c.args.count
 
 pub returns : goal.returns
-returns c = sym (drop_of_length-le LOOK c.before.before.args.s.now {i = LOOK c.before.before.args.count} (omega arith))
+returns c = sym (drop_of_length-le c.args.s.now {i = c.args.count} (omega arith))

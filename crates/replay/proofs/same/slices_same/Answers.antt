@@ -1,5 +1,5 @@
 -- `replay::same::slices_same` meets its contract: what is left decides. Assumes nothing.
-use Rattle.std.proofs.Common.{◌≡◌, ◌-◌, ◌≤◌, length, drop, sym, refl, ◌∙◌, arith, rules}
+use Rattle.std.proofs.Common.{◌≡◌, ◌-◌, ◌≤◌, length, drop, not, sym, refl, ap, ◌∙◌, arith, rules}
 use Rattle.replay.specs.Same.{all_same}
 use Rattle.replay.proofs.Comparison.{other_length, none_left, differs, agrees}
 use Rattle.replay.proofs.same.slices_same.Goals as goal
@@ -19,13 +19,13 @@ pub returns-then-not-same : goal.returns-then-not-same
 returns-then-not-same c =
     let l = c.loop-i in
     let s = c.args in
-    sym (l.invariant.1 ∙ differs s.signed s.a.now s.b.now l.i (search rules) (omega (arith, c.if-a-b.false)) _ c.same.ensures c.if-not-same.true)
+    sym (l.invariant.1 ∙ differs s.signed s.a.now s.b.now l.i (search rules) (omega (arith, c.if-a-b.false)) _ c.same.ensures (ap not c.if-not-same.true))
 
 pub loop-i-preserved : goal.loop-i-preserved
 loop-i-preserved c =
     let l = c.loop-i in
     let s = c.args in
-    (search rules, l.invariant.1 ∙ agrees s.signed s.a.now s.b.now l.i (search rules) (omega (arith, c.if-a-b.false)) _ c.same.ensures c.if-not-same.false)
+    (search rules, l.invariant.1 ∙ agrees s.signed s.a.now s.b.now l.i (search rules) (omega (arith, c.if-a-b.false)) _ c.same.ensures (ap not c.if-not-same.false))
 
 pub returns : goal.returns
 returns c =

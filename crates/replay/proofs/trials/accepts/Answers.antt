@@ -11,4 +11,4 @@ returns-then-is_lent c =
 pub returns : goal.returns
 returns c =
     let s = c.args in
-    answered_so s.lengths s.trial _ c.is_lent.ensures s.signed s.status s.got s.answer.now s.left.now _ c.if-is_lent.false LOOK c.All-same.ensures
+    answered_so s.lengths s.trial _ c.is_lent.ensures s.signed s.status s.got s.answer.now s.left.now _ c.if-is_lent.false c.all_same.ensures

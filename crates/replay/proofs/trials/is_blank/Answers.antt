@@ -4,4 +4,4 @@ use Rattle.replay.specs.Same.{all_same}
 use Rattle.replay.proofs.trials.is_blank.Goals as goal
 
 pub returns : goal.returns
-returns c = LOOK c.All-same.ensures ∙ ap (all_same true c.args.numbers.now) c.blank-nothing.ensures.0
+returns c = c.all_same.ensures ∙ ap (all_same true c.args.numbers.now) c.blank-nothing.ensures.0
