@@ -75,13 +75,11 @@ unfolding lines_from
 short_lines k [] = omega arith
 short_lines k (v ∷ vs) = omega (arith, length-append (line k v) (lines_from line (suc k) vs), short_line k v, short_lines (suc k) vs)
 
--- a copy to the front of what is left of a text
-pub part_put : (t : List ℕ) (at : ℕ) (s ys : List ℕ) → at ≤ length t → ys ≡ take (length s) s ++ drop (length s) (take (length t - at) (drop at t))
-    → take at t ++ (ys ++ drop (length t - at) (drop at t)) ≡ inserted t at s
-part_put t at s ys h e =
-    let none : drop (length t - at) (drop at t) ≡ [] = drop_of_length-le (drop at t) {i = length t - at} (omega (arith, length-drop at t)) in
-    ap (λ (l : List ℕ). take at t ++ (ys ++ l)) none ∙ ap (λ (l : List ℕ). take at t ++ l) (append-nil ys ∙ e ∙ ap (λ (l : List ℕ). l ++ drop (length s) (take (length t - at) (drop at t))) (take-length s)
-    ∙ ap (λ (l : List ℕ). s ++ drop (length s) l) (take_all (length t - at) (drop at t) (omega (arith, length-drop at t))))
+-- bytes in place of as many of a text, from a place on
+pub part_put : (t : List ℕ) (at : ℕ) (s ys : List ℕ) → ys ≡ s → take at t ++ (ys ++ drop (at + length s - at) (drop at t)) ≡ inserted t at s
+part_put t at s ys e =
+    let n : at + length s - at ≡ length s = omega arith in
+    ap (λ (l : List ℕ). take at t ++ (l ++ drop (at + length s - at) (drop at t))) e ∙ ap (λ (k : ℕ). take at t ++ (s ++ drop k (drop at t))) n
     ∙ sym (append_assoc (take at t) s (drop (length s) (drop at t))) ∙ ap (λ (l : List ℕ). take at t ++ s ++ l) (drop-drop (length s) at t)
 
 -- ---- what putting answers and leaves

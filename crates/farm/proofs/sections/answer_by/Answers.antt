@@ -114,24 +114,24 @@ module _ (b : List ℕ) (r : Measured b) (numbers : List Float) (e : numbers ≡
 pub slice_bounds-intersects_bboxes-end : goal.slice_bounds-intersects_bboxes-end
 slice_bounds-intersects_bboxes-end c =
     let a = c.args in
-    sym (length-take-le _ a.numbers.now (fits a.file.now c.requires.measured.0 a.numbers.now c.requires.numbers_value.0 a.out.now c.requires.numbers_value.1 _ c.word_32.ensures _ _ c.requires.measured.1 c.volume_length-size.ensures))
+    sym (length-take-le _ a.numbers.now (fits a.file.now c.requires.measured.0 a.numbers.now c.requires.numbers_value.0 a.out.now c.requires.numbers_value.1 _ c.word_32-count.ensures _ _ c.requires.measured.1 c.volume_length-size.ensures))
 
 pub slice_bounds-intersects_bboxes-end-3 : goal.slice_bounds-intersects_bboxes-end-3
 slice_bounds-intersects_bboxes-end-3 c =
     let a = c.args in
-    few a.file.now c.requires.measured.0 a.numbers.now c.requires.numbers_value.0 a.out.now c.requires.numbers_value.1 _ c.word_32.ensures _ _ c.requires.measured.1 c.volume_length-size.ensures
+    few a.file.now c.requires.measured.0 a.numbers.now c.requires.numbers_value.0 a.out.now c.requires.numbers_value.1 _ c.word_32-count.ensures _ _ c.requires.measured.1 c.volume_length-size.ensures
 
 pub slice_bounds-intersects_bboxes-end-4 : goal.slice_bounds-intersects_bboxes-end-4
 slice_bounds-intersects_bboxes-end-4 c =
     let a = c.args in
-    sym (lent a.file.now c.requires.measured.0 a.numbers.now c.requires.numbers_value.0 a.out.now c.requires.numbers_value.1 _ c.word_32.ensures _ _ c.requires.measured.1 c.volume_length-size.ensures)
+    sym (lent a.file.now c.requires.measured.0 a.numbers.now c.requires.numbers_value.0 a.out.now c.requires.numbers_value.1 _ c.word_32-count.ensures _ _ c.requires.measured.1 c.volume_length-size.ensures)
 
 pub returns-in-Done : goal.returns-in-Done
 returns-in-Done c =
     let a = c.args in
-    all_filled a.file.now c.requires.measured.0 a.numbers.now c.requires.numbers_value.0 a.out.now c.requires.numbers_value.1 _ c.word_32.ensures _ _ c.requires.measured.1 c.volume_length-size.ensures _ _ c.intersects_bboxes.ensures c.in-Done.is _ c.clear.ensures
+    all_filled a.file.now c.requires.measured.0 a.numbers.now c.requires.numbers_value.0 a.out.now c.requires.numbers_value.1 _ c.word_32-count.ensures _ _ c.requires.measured.1 c.volume_length-size.ensures _ _ c.intersects_bboxes.ensures c.in-Done.is _ c.clear.ensures
 
 pub returns-in-Refused : goal.returns-in-Refused
 returns-in-Refused c =
     let a = c.args in
-    none_filled a.file.now c.requires.measured.0 a.numbers.now c.requires.numbers_value.0 a.out.now c.requires.numbers_value.1 _ c.word_32.ensures _ _ c.requires.measured.1 c.volume_length-size.ensures _ _ c.intersects_bboxes.ensures _ c.in-Refused.is
+    none_filled a.file.now c.requires.measured.0 a.numbers.now c.requires.numbers_value.0 a.out.now c.requires.numbers_value.1 _ c.word_32-count.ensures _ _ c.requires.measured.1 c.volume_length-size.ensures _ _ c.intersects_bboxes.ensures _ c.in-Refused.is

@@ -34,3 +34,10 @@ returns c =
 
 pub shape_of-room : goal.shape_of-room
 shape_of-room c = c.loop-i.invariant.1
+
+pub overflow_add-taken : goal.overflow_add-taken
+overflow_add-taken c =
+    let l = c.loop-i in
+    let a = c.args in
+    let t = one_taken a.file.now _ _ l.room a.room.now c.requires.1 l.taken l.i l.invariant.1 l.invariant.2 l.invariant.3 (omega arith) _ _ c.load_section-taken.ensures.0 c.load_section-taken.ensures.1 in
+    omega (arith, t.0, t.1)

@@ -14,7 +14,7 @@ pub returns-then-bytes-size : goal.returns-then-bytes-size
 returns-then-bytes-size c = whole _ _ c.if-bytes-size.true
 
 pub slice_bounds-result-end : goal.slice_bounds-result-end
-slice_bounds-result-end c = sym (length-take-le _ _ (omega (arith, c.if1.false)))
+slice_bounds-result-end c = sym (length-take-le _ _ (omega (arith, c.if-bytes-size.false)))
 
 pub returns : goal.returns
 returns c = refl

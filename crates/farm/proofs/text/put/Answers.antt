@@ -1,5 +1,5 @@
 -- `text::put` meets its contract: by its tests of the room, and by what it calls. Assumes nothing.
-use mathlib.Core.Path.{ap}
+use mathlib.Core.Path.{refl}
 use Prim.Native.Nat.{ℕ, ◌+◌}
 use native.Mathlib.Omega.{arith}
 use borrow.Author.Rules.{rules}
@@ -17,5 +17,4 @@ returns-then-text-at-2 c =
 pub returns : goal.returns
 returns c =
     let given = c.args in
-    puts_room given.text.now given.at given.bytes.now _ _ (omega arith)
-    (ap (λ (n : ℕ). given.at + n) LOOK copied.copy.ensures.0, part_put given.text.now given.at given.bytes.now _ (omega arith) LOOK copied.copy.ensures.1)
+    puts_room given.text.now given.at given.bytes.now _ _ (omega arith) (refl, part_put given.text.now given.at given.bytes.now _ c.copy_from_slice.ensures.after)
