@@ -135,3 +135,28 @@ pub returns-in-Refused : goal.returns-in-Refused
 returns-in-Refused c =
     let a = c.args in
     none_filled a.file.now c.requires.measured.0 a.numbers.now c.requires.numbers_value.0 a.out.now c.requires.numbers_value.1 _ c.word_32-count.ensures _ _ c.requires.measured.1 c.volume_length-size.ensures _ _ c.intersects_bboxes.ensures _ c.in-Refused.is
+
+pub overflow_sub-count : goal.overflow_sub-count
+overflow_sub-count c =
+    let a = c.args in
+    some a.file.now c.requires.measured.0 a.numbers.now c.requires.numbers_value.0 a.out.now c.requires.numbers_value.1 _ c.word_32-count.ensures _ _ c.requires.measured.1 c.volume_length-size.ensures
+
+pub slice_bounds-intersects_bboxes-count : goal.slice_bounds-intersects_bboxes-count
+slice_bounds-intersects_bboxes-count c =
+    let a = c.args in
+    fits a.file.now c.requires.measured.0 a.numbers.now c.requires.numbers_value.0 a.out.now c.requires.numbers_value.1 _ c.word_32-count.ensures _ _ c.requires.measured.1 c.volume_length-size.ensures
+
+pub slice_bounds-intersects_bboxes-start : goal.slice_bounds-intersects_bboxes-start
+slice_bounds-intersects_bboxes-start c =
+    let a = c.args in
+    fits a.file.now c.requires.measured.0 a.numbers.now c.requires.numbers_value.0 a.out.now c.requires.numbers_value.1 _ c.word_32-count.ensures _ _ c.requires.measured.1 c.volume_length-size.ensures
+
+pub slice_bounds-clear-count : goal.slice_bounds-clear-count
+slice_bounds-clear-count c =
+    let a = c.args in
+    room_left a.file.now c.requires.measured.0 a.numbers.now c.requires.numbers_value.0 a.out.now c.requires.numbers_value.1 _ c.word_32-count.ensures _ _ c.requires.measured.1 c.volume_length-size.ensures _ _ c.intersects_bboxes.ensures c.in-Done.is
+
+pub slice_bounds-clear-start : goal.slice_bounds-clear-start
+slice_bounds-clear-start c =
+    let a = c.args in
+    room_left a.file.now c.requires.measured.0 a.numbers.now c.requires.numbers_value.0 a.out.now c.requires.numbers_value.1 _ c.word_32-count.ensures _ _ c.requires.measured.1 c.volume_length-size.ensures _ _ c.intersects_bboxes.ensures c.in-Done.is
