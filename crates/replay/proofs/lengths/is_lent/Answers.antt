@@ -4,4 +4,4 @@ use lib.ListN.{get_or-eq_default}
 use Rattle.replay.proofs.lengths.is_lent.Goals as goal
 
 pub returns : goal.returns
-returns c = sym (ap (λ (n : ℕ). ltb 1 n) (get_or-eq_default c.args.t1 0 (omega arith)))
+returns c = sym (ap (λ (n : ℕ). ltb 1 n) (get_or-eq_default c.args.lengths 0 (omega arith)))

@@ -4,7 +4,7 @@ use lib.Seq.{set_out}
 use Rattle.replay.proofs.lengths.shorter.Goals as goal
 
 pub returns-then-at-lt5 : goal.returns-then-at-lt5
-returns-then-at-lt5 c = ap (λ (n : ℕ). set c.args.t1 c.args.at n) c.less.ensures
+returns-then-at-lt5 c = ap (λ (n : ℕ). set c.args.lengths c.args.at n) c.less.ensures
 
 pub returns-else-at-lt5 : goal.returns-else-at-lt5
-returns-else-at-lt5 c = sym (set_out c.args.t1 _ _ (omega arith))
+returns-else-at-lt5 c = sym (set_out c.args.lengths _ _ (omega arith))
