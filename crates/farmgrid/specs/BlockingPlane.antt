@@ -15,7 +15,7 @@ pub record FirstAbsent (Ps : List WholePlane) (A B : ℕ → ℤ) (i : ℕ) : Ty
 
 pub record BlockingAnswer (answer : Outcome Found) (Ps : List WholePlane) (A B : ℕ → ℤ) : Type 0 where
   -- "14 if the segment is already answered yes": some exact point satisfies all planes. Nothing else is refused.
-  pub in_view_lem : (answer ≡ refused 14) ↔ SegmentInView Ps A B
+  pub in_view : (answer ≡ refused 14) ↔ SegmentInView Ps A B
   pub no_other : (k : ℕ) → answer ≡ refused k → k ≡ 14
   pub named : (i : ℕ) → (answer ≡ outcome (found i)) ↔ ((SegmentInView Ps A B → ⊥) × FirstAbsent Ps A B i)
   -- "none means that no single absence does"

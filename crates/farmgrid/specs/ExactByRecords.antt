@@ -51,7 +51,7 @@ pub record GridRecords (v b : List Float) : Type 0 where
   pub planes : List WholePlane
   pub box : WholeBox
   pub view_record : ViewRecord SegmentPlane v planes
-  pub box_record_lem : BoxRecord b box
+  pub box_record : BoxRecord b box
 
 -- a call was answered with a yes or a no
 pub record Answered (o : Outcome Bool) : Type 0 where

@@ -102,8 +102,8 @@ module _ {r s : Range3d} {m n : Mat4d} {e f : Extent} (A : Holds r m e) (B : Hol
 
   brought : WholeRange (transformed s (product n i)) least greatest
   brought = transformed_whole
-      (product_whole B.matrix-is (widen_placement (lit≤ tt) B.placement) I (widen_placement (lit≤ tt) back))
-      (widen_placement (lit≤ tt) into_placement) B.range-is (widen (lit≤ tt) B.low-size) (widen (lit≤ tt) B.high-size) B.some
+      (product_whole B.matrix_is (widen_placement (lit≤ tt) B.placement) I (widen_placement (lit≤ tt) back))
+      (widen_placement (lit≤ tt) into_placement) B.range_is (widen (lit≤ tt) B.low_size) (widen (lit≤ tt) B.high_size) B.some
 
   on_grid_lem : (u : Bool) → GridPoint (placed u B.matrix B.low B.high)
   on_grid_lem u = record { size = λ j h. subst (λ (z : ℤ). nat_abs z ≤ grid_limit) (sym (B.extent u j h)) ((B.grid u).size j h) }
@@ -122,12 +122,12 @@ module _ {r s : Range3d} {m n : Mat4d} {e f : Extent} (A : Holds r m e) (B : Hol
     low = λ k. smallerℤ (A.low k) (least k);
     high = λ k. largerℤ (A.high k) (greatest k);
     matrix = A.matrix;
-    range_is = union_whole A.range-is brought A.some brought_some;
-    matrix_is = A.matrix-is;
+    range_is = union_whole A.range_is brought A.some brought_some;
+    matrix_is = A.matrix_is;
     some = record { ordered = λ k h. ordered (A.low k) (A.high k) (least k) (greatest k) (A.some.ordered k h) };
     placement = A.placement;
-    low_size = either_within false A.low-size (brought_size false);
-    high_size = either_within true A.high-size (brought_size true);
+    low_size = either_within false A.low_size (brought_size false);
+    high_size = either_within true A.high_size (brought_size true);
     extent = λ u j h.
         placed_grown A.placement B.placement u A.some B.low B.high j h
         ∙ (λ t. extreme u (A.extent u j h t) (B.extent u j h t));
@@ -150,7 +150,7 @@ chosen true a b A B = A
 chosen false a b A B = B
 
 inverse_of : {r : Range3d} {m : Mat4d} {e : Extent} (A : Holds r m e) → WholeInverse (inverse_above box_epsilon m) (inverseℤ A.matrix)
-inverse_of A = inverse_whole A.matrix-is (widen_placement (lit≤ tt) A.placement) box_epsilon epsilon_below_one
+inverse_of A = inverse_whole A.matrix_is (widen_placement (lit≤ tt) A.placement) box_epsilon epsilon_below_one
 
 module _ (a b : BBox3d) {e f : Extent} (A : Holds a.range a.matrix e) (B : Holds b.range b.matrix f) where
   candidates : (m n : Mat4d) → WholeMatrix m (inverseℤ A.matrix) → WholeMatrix n (inverseℤ B.matrix)
@@ -164,7 +164,7 @@ module _ (a b : BBox3d) {e f : Extent} (A : Holds a.range a.matrix e) (B : Holds
 
   held_is : held a b ≡ merged a b (flag_beside (Matrix (inverse_of A).matrix)) (flag_beside (Matrix (inverse_of B).matrix))
   unfolding held
-  held_is = rw (nonempty_whole A.range-is A.some, nonempty_whole B.range-is B.some, (inverse_of A).accepted, (inverse_of B).accepted)
+  held_is = rw (nonempty_whole A.range_is A.some, nonempty_whole B.range_is B.some, (inverse_of A).accepted, (inverse_of B).accepted)
 
   pub combined_holds : Holds (combined a b).range (combined a b).matrix (join e f)
   unfolding combined

@@ -69,8 +69,8 @@ pub range_whole : {s : List Float} {e : Extent} → Stands s e → WholeRange (a
 range_whole S =
     let H = S.holds in
     same_range
-    (transformed_whole H.matrix-is (widen_placement (lit≤ tt) H.placement) H.range-is (widen (lit≤ tt) H.low-size)
-    (widen (lit≤ tt) H.high-size) H.some)
+    (transformed_whole H.matrix_is (widen_placement (lit≤ tt) H.placement) H.range_is (widen (lit≤ tt) H.low_size)
+    (widen (lit≤ tt) H.high_size) H.some)
     (H.extent false) (H.extent true)
 
 module _ {s : List Float} {e : Extent} (S : Stands s e) (out : List Float) (room : length out ≡ 6) where

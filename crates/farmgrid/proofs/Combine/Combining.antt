@@ -15,10 +15,10 @@ use Rattle.farmgrid.proofs.Combine.Totals.{also, Total, OneTaken, taken}
 module _ {a b : List Float} {ss rest : List (List Float)} {f : Extent → Extent} (two : Two a b ss rest) (T : Total ss f) (out : List Float)
     (room : length out ≡ box_length) where
   one : OneTaken a two.without T.extents
-  one = taken two.picked-a T.stand
+  one = taken two.picked_a T.stand
 
   other : OneTaken b rest one.others
-  other = taken two.picked-b one.stand
+  other = taken two.picked_b one.stand
 
   pub combine_call_lem : Accepted (combine_call a b out) (λ s. length s ≡ box_length)
   combine_call_lem = combine_accepted one.stands other.stands out room

@@ -103,14 +103,14 @@ module _ (u : Bool) (j : ℕ) where
   own_beyond B (C ∷ Cs) y k h e =
       beyond_trans u (listed B (C ∷ Cs) u j) (extent_of B u j) y (extreme_first u (extent_of B u j) (listed C Cs u j)) (box_beyond B y k h e)
 
-  listed_beyond : (B : WholeBox) (Bs : List WholeBox) (y : ℤ) → CornerCoordinate j y (B ∷ Bs) → Beyond u (listed B Bs u j) y
-  listed_beyond B Bs y (own k h e) = own_beyond B Bs y k h e
-  listed_beyond B (C ∷ Cs) y (other c) =
-      beyond_trans u (listed B (C ∷ Cs) u j) (listed C Cs u j) y (extreme_second u (extent_of B u j) (listed C Cs u j)) (listed_beyond C Cs y c)
+  listed_beyond : (y : ℤ) (B : WholeBox) (Bs : List WholeBox) → CornerCoordinate j y (B ∷ Bs) → Beyond u (listed B Bs u j) y
+  listed_beyond y B Bs (own k h e) = own_beyond B Bs y k h e
+  listed_beyond y B (C ∷ Cs) (other c) =
+      beyond_trans u (listed B (C ∷ Cs) u j) (listed C Cs u j) y (extreme_second u (extent_of B u j) (listed C Cs u j)) (listed_beyond y C Cs c)
 
 module _ (B : WholeBox) (Bs : List WholeBox) (j : ℕ) where
   pub listed_least : Least (B ∷ Bs) j (listed B Bs false j)
-  listed_least = record { among = listed_among false j B Bs; least = λ {y} c. listed_beyond false j B Bs y c }
+  listed_least = record { among = listed_among false j B Bs; least = λ {y} c. listed_beyond false j y B Bs c }
 
   pub listed_greatest : Greatest (B ∷ Bs) j (listed B Bs true j)
-  listed_greatest = record { among = listed_among true j B Bs; greatest = λ {y} c. listed_beyond true j B Bs y c }
+  listed_greatest = record { among = listed_among true j B Bs; greatest = λ {y} c. listed_beyond true j y B Bs c }

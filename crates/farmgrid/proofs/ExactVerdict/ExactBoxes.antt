@@ -76,8 +76,8 @@ bounds_pass {box} {low} {high} b = λ t. along 0 (lit< tt) t && along 1 (lit< tt
 
     along : (j : ℕ) → j < 3 → axis_within box j ≡ true
     along j l =
-        let p = le-leb _ _ (small (low_corner box j) (low j) (b.least j l) (b.low-grid.size j l)) in
-        let q = le-leb _ _ (small (high_corner box j) (high j) (b.greatest j l) (b.high-grid.size j l)) in
+        let p = le-leb _ _ (small (low_corner box j) (low j) (b.least j l) (b.low_grid.size j l)) in
+        let q = le-leb _ _ (small (high_corner box j) (high j) (b.greatest j l) (b.high_grid.size j l)) in
         let r = (λ t. le_z (b.least j l t) (b.greatest j l t)) ∙ is_true (le_z (low j) (high j)) (b.some.ordered j l).le in
         λ t. p t && q t && r t
 

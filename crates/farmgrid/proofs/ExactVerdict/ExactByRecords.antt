@@ -176,7 +176,7 @@ module _ (v b : List Float) where
         planes = planes_in v;
         box = box_in b;
         view_record = view_record v (counted_in v n (counted v n k.held)) (both_finite k.finite).0 j.0 j.1;
-        box_record_lem = box_record_lem b (eqb-true _ _ (sym (one_input box_length b) ∙ k.lengths)) k.flag i.1 h.1;
+        box_record = box_record_lem b (eqb-true _ _ (sym (one_input box_length b) ∙ k.lengths)) k.flag i.1 h.1;
       }
 
   abbrev Seven : Outcome Bool → Type 0
@@ -186,7 +186,7 @@ module _ (v b : List Float) where
   seven answer = go (intersects_box_call v b) refl
     where
       by_test : (y : Bool) → intersects_box_call v b ≡ outcome y → (g : Bool) → on_grid v b ≡ g → ByGrid v b answer g → Seven answer
-      by_test y e false f p = (λ q. (record { verdict = y; is = e }, λ r. true≢false (sym (both_pass r.view-record r.box-record) ∙ f)), λ q. p)
+      by_test y e false f p = (λ q. (record { verdict = y; is = e }, λ r. true≢false (sym (both_pass r.view_record r.box_record) ∙ f)), λ q. p)
       by_test y e true f (inl p) = (λ q. no_result (sym q ∙ p.0), λ q. absurd (q.1 (grid_records y e f)))
       by_test y e true f (inr p) = (λ q. no_result (sym q ∙ p.0), λ q. absurd (q.1 (grid_records y e f)))
 

@@ -202,7 +202,7 @@ is_grid_box_lem A e = record {
     firsts = both_hold (quarter_turned A) (point_within (placed_least A)) parts.0
 
     along : (P : ℕ → Type 0) → ((j : ℕ) → Along A j → P j) → (j : ℕ) → j < 3 → P j
-    along P f = let q = quarter A firsts.0 in three P (f 0 q.along-x) (f 1 q.along-y) (f 2 q.along-z)
+    along P f = let q = quarter A firsts.0 in three P (f 0 q.along_x) (f 1 q.along_y) (f 2 q.along_z)
 
     F : Placement A.matrix
     F = record {

@@ -69,7 +69,7 @@ module _ (B : WholeBox) (Bs : List WholeBox) {last : List Float} (S : Stands las
   wide : Wide (box_of last) L
   wide =
       let H = S.holds in
-      record { range = H.range-is; matrix = H.matrix-is; low = H.low-size; high = H.high-size; some = H.some; placement = H.placement }
+      record { range = H.range_is; matrix = H.matrix_is; low = H.low_size; high = H.high_size; some = H.some; placement = H.placement }
 
   abbrev verdict : List Float → Bool
   verdict s = box_in_view (planes_of v W.count) (box_of s)
@@ -100,6 +100,6 @@ group_out ss B Bs last v Ps h l W =
     record {
       verdict = box_in_view (planes_of v W.count) (box_of last);
       -- what the calls leave is a box of whole numbers, and so a finite one
-      answered = box_answer v W.volume (view_finite W) last S.numbers S.flag (box_finite last S.numbers S.flag S.holds.range-is S.holds.matrix-is);
+      answered = box_answer v W.volume (view_finite W) last S.numbers S.flag (box_finite last S.numbers S.flag S.holds.range_is S.holds.matrix_is);
       members = λ e. members_out B Bs S W e (λ j z c. c) h;
     }

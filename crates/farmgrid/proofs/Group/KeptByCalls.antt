@@ -53,8 +53,8 @@ module _ (K : List Float → Type 0) where
     pub mixed_keeps : {ss left : List (List Float)} → Mixed ss left → EachRecord K ss → EachRecord K left
     mixed_keeps none g = g
     mixed_keeps (combine {a = a} {b = b} two out room rest) g =
-        let (k, without) = each_picked two.picked-a g in
-        let (l, others) = each_picked two.picked-b without in
+        let (k, without) = each_picked two.picked_a g in
+        let (l, others) = each_picked two.picked_b without in
         mixed_keeps rest (keeps a b k l out room, others)
     mixed_keeps (group {members = members} G out room rest) g =
         let (k, others) = each_taken G.taken g in

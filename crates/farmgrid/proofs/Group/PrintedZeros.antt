@@ -151,7 +151,7 @@ one_vec {u} {v} {p} U U' g h = same_vec3 (at 0 (lit< tt)) (at 1 (lit< tt)) (at 2
 
 -- the range of a box that stands for something is not empty
 not_empty : {s : List Float} {e : Extent} → Stands s e → is_empty (box_of s).range ≡ false
-not_empty S = nonempty_whole S.holds.range-is S.holds.some
+not_empty S = nonempty_whole S.holds.range_is S.holds.some
 
 module _ {s : List Float} {e : Extent} (S : Stands s e) (P : PlainRecord s) where
   abbrev r : Range3d

@@ -48,7 +48,7 @@ module _ {s p : List Float} {n : ℕ} {low high : ℕ → ℕ → ℤ} {A : ℕ 
   count_is = let e = R.numbers in omega arith
 
   distance_is : (i : ℕ) → i < n → Whole (distance_at s (vec3_of p) i) (square_to (low i) (high i) A)
-  distance_is i l = range_distance_whole (R.range i l) (R.low-grid i l) (R.high-grid i l) P.point.numbers P.point.grid
+  distance_is i l = range_distance_whole (R.range i l) (R.low_grid i l) (R.high_grid i l) P.point.numbers P.point.grid
 
   filled_is : (i : ℕ) → i < n → T (not (is_empty (range_at s i))) ↔ NonEmpty (low i) (high i)
   filled_is i l =
@@ -70,10 +70,10 @@ module _ {s p : List Float} {n : ℕ} {low high : ℕ → ℕ → ℤ} {A : ℕ 
   to_exact i h = record {
     place = here;
     filled = (candidate_is i here).0 h.candidate;
-    nothing_nearer = λ j l t. (le_whole (distance_is i here) (distance_is j l)).0 (h.nothing-nearer j (subst (λ (m : ℕ). j < m) (sym count_is) l) ((candidate_is j l).1 t));
+    nothing_nearer = λ j l t. (le_whole (distance_is i here) (distance_is j l)).0 (h.nothing_nearer j (subst (λ (m : ℕ). j < m) (sym count_is) l) ((candidate_is j l).1 t));
     earlier_further = λ j l t.
         let k : j < n = omega arith in
-        (lt_whole (distance_is i here) (distance_is j k)).0 (h.earlier-further j l ((candidate_is j k).1 t));
+        (lt_whole (distance_is i here) (distance_is j k)).0 (h.earlier_further j l ((candidate_is j k).1 t));
   }
     where
       here : i < n
@@ -85,10 +85,10 @@ module _ {s p : List Float} {n : ℕ} {low high : ℕ → ℕ → ℤ} {A : ℕ 
     candidate = (candidate_is i h.place).1 h.filled;
     nothing_nearer = λ j l t.
         let k = subst (λ (m : ℕ). j < m) count_is l in
-        (le_whole (distance_is i h.place) (distance_is j k)).1 (h.nothing-nearer j k ((candidate_is j k).0 t));
+        (le_whole (distance_is i h.place) (distance_is j k)).1 (h.nothing_nearer j k ((candidate_is j k).0 t));
     earlier_further = λ j l t.
         let k = before j l in
-        (lt_whole (distance_is i h.place) (distance_is j k)).1 (h.earlier-further j l ((candidate_is j k).0 t));
+        (lt_whole (distance_is i h.place) (distance_is j k)).1 (h.earlier_further j l ((candidate_is j k).0 t));
   }
     where
       before : (j : ℕ) → j < i → j < n

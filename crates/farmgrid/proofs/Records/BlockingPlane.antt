@@ -76,7 +76,7 @@ not_both k f e = let z : ◌≡◌ {A = ℕ} 0 1 = cc in omega arith
 module _ (answer : Outcome Found) {ps : List Plane} {Ps : List WholePlane} {a b : Vec3d} {A B : ℕ → ℤ} (hs : ArePlanes SegmentPlane ps Ps) (g : IsPoint a A) (g' : IsPoint b B) where
   when_seen : 0 < length Ps → SegmentInView Ps A B → answer ≡ refused 14 → BlockingAnswer answer Ps A B
   when_seen l s e = record {
-    in_view_lem = (λ f. s, λ t. e);
+    in_view = (λ f. s, λ t. e);
     no_other = λ k f. same_refusal 14 k (sym e ∙ f);
     named = λ i. (λ f. absurd (not_both 14 (found i) (sym e ∙ f)), λ h. absurd (h.0 s));
     none = (λ f. absurd (not_both 14 nowhere (sym e ∙ f)), λ h. absurd (h 0 l (still_seen Ps A B l s)));
@@ -84,7 +84,7 @@ module _ (answer : Outcome Found) {ps : List Plane} {Ps : List WholePlane} {a b 
 
   when_hidden : (SegmentInView Ps A B → ⊥) → answer ≡ outcome (blocking_plane ps a b) → BlockingAnswer answer Ps A B
   when_hidden u e = record {
-    in_view_lem = (λ f. absurd (not_both 14 (blocking_plane ps a b) (sym f ∙ e)), λ s. absurd (u s));
+    in_view = (λ f. absurd (not_both 14 (blocking_plane ps a b) (sym f ∙ e)), λ s. absurd (u s));
     no_other = λ k f. absurd (not_both k (blocking_plane ps a b) (sym f ∙ e));
     named = λ i. (
       λ f. (u, (blocking_is hs g g' i).0 ((blocking_means ps a b i).0 (same_result (blocking_plane ps a b) (found i) (sym e ∙ f)))),
@@ -112,7 +112,7 @@ module _ (v p q : List Float) (Ps : List WholePlane) (A B : ℕ → ℤ) (W : Vi
   by_verdict : (s : Bool) → seen ≡ s → BlockingAnswer (blocking_plane_call v p q) Ps A B
   by_verdict true e =
       when_seen (blocking_plane_call v p q) W.planes P.point Q.point some (seen_is.0 (subst T (sym e) tt))
-      (sym (calls.in-view v p q (sym (asked ∙ ap outcome e))))
+      (sym (calls.in_view_lem v p q (sym (asked ∙ ap outcome e))))
   by_verdict false e =
       when_hidden (blocking_plane_call v p q) W.planes P.point Q.point (λ s. subst T e (seen_is.1 s))
       (sym (calls.answered v p q (sym (asked ∙ ap outcome e)) W.count _ (passed v W.volume) refl))

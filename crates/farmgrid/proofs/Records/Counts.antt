@@ -31,6 +31,8 @@ whole_between (fin true m e) n h w = let v = ((whole_at_lem (of_pos n)).0 w).is 
 whole_between (fin false m e) n h w = let v = ((whole_at_lem (of_pos n)).0 w).is in (refl, omega (arith, v), omega (arith, v))
 
 between_whole : (x : Float) (n : ℕ) → Between n n x → Whole x (pos n)
+between_whole nan n b = elim b [ ]
+between_whole (inf s) n b = elim b [ ]
 between_whole (fin true m e) n b = absurd (true≢false b.0)
 between_whole (fin false m e) n b = (whole_at_lem (of_pos n)).1 (record { is = omega (arith, b.1, b.2) })
 

@@ -112,7 +112,7 @@ module _ (verdict : List Plane → Bool) (kept : (ps : List Plane) (p : Plane) (
   any_kept : T (verdict (planes_of v' (suc M.count))) → T (verdict (planes_of v M.count))
   any_kept t =
       subst (λ (os : List Plane). T (verdict os)) (sym M.planes)
-      (kept M.ps M.p M.qs (subst (λ (os : List Plane). T (verdict os)) M.planes-more t))
+      (kept M.ps M.p M.qs (subst (λ (os : List Plane). T (verdict os)) M.planes_more t))
 
 pub each_plane_screens : EachPlaneScreens
 each_plane_screens = record {
@@ -120,14 +120,14 @@ each_plane_screens = record {
     was = point_in_view (planes_of v M.count) (vec3_of x);
     is = point_in_view (planes_of v' (suc M.count)) (vec3_of x);
     answered_before = point_answer v M.before (is_true (all_finite v) M.finite) x h f;
-    answered_after = point_answer v' M.after (is_true (all_finite v') M.finite-more) x h f;
+    answered_after = point_answer v' M.after (is_true (all_finite v') M.finite_more) x h f;
     kept = any_kept (λ os. point_in_view os (vec3_of x)) (λ ps p qs. point_kept ps p qs (vec3_of x)) M;
   };
   box = λ v v' b M h f g. let flag = is_true (flagged b) f in let numbers = is_true (all_finite b) g in record {
     was = box_in_view (planes_of v M.count) (box_of b);
     is = box_in_view (planes_of v' (suc M.count)) (box_of b);
     answered_before = box_answer v M.before (is_true (all_finite v) M.finite) b h flag numbers;
-    answered_after = box_answer v' M.after (is_true (all_finite v') M.finite-more) b h flag numbers;
+    answered_after = box_answer v' M.after (is_true (all_finite v') M.finite_more) b h flag numbers;
     kept = any_kept (λ os. box_in_view os (box_of b)) (λ ps p qs. box_kept ps p qs (box_of b)) M;
   };
 }

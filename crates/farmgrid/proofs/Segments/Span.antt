@@ -182,11 +182,11 @@ module _ {X : Type 0} (D D' : X → ℤ) where
       let e = tested (D x) (D' x) start end n in
       let test = beq (non_neg (D x)) (non_neg (D' x)) || not (less end' start') in
       let rest = span_by D D' xs start' end' in (
-        λ v. let w = (span_by_lem xs (and_r here each t) s' (e.0 (and_l test rest v))).0 (and_r test rest v) in
+        λ v. let w = (span_by_lem {start = start'} {end = end'} {R = Both R (Keeps (D x) (D' x))} xs (and_r here each t) s' (e.0 (and_l test rest v))).0 (and_r test rest v) in
             place_map {R' = Both R (KeptBy D D' (x ∷ xs))} (λ u m r. (r.0.0, (r.0.1, r.1))) w,
         λ w. let w' = place_map {R' = Both (Both R (Keeps (D x) (D' x))) (KeptBy D D' xs)} (λ u m r. ((r.0, r.1.0), r.1.1)) w in
             let n' = not_past s' (place_map (λ u m r. r.0) w') in
-            and_i test rest (e.1 n') ((span_by_lem xs (and_r here each t) s' n').1 w'),
+            and_i test rest (e.1 n') ((span_by_lem {start = start'} {end = end'} {R = Both R (Keeps (D x) (D' x))} xs (and_r here each t) s' n').1 w'),
       )
 
   -- every plane that keeps some place has an end on its positive side

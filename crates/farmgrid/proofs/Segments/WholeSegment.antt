@@ -24,10 +24,10 @@ module _ (A B : ℕ → ℤ) where
       let D' = gap P B in
       let here = has_end D D' in
       let rest = leaves Ps A B (start_by D D' start) (end_by D D' end) in (
-        λ v. place_map {R' = Both R (Kept (P ∷ Ps) A B)} (λ u m r. (r.0.0, (r.0.1, r.1))) ((leaves_is Ps (cut D D' (and_l here rest v) s)).0 (and_r here rest v)),
+        λ v. place_map {R' = Both R (Kept (P ∷ Ps) A B)} (λ u m r. (r.0.0, (r.0.1, r.1))) ((leaves_is {start = start_by D D' start} {end = end_by D D' end} {R = Both R (Keeps D D')} Ps (cut D D' (and_l here rest v) s)).0 (and_r here rest v)),
         λ w. let h = kept_end D D' w.u w.m w.some w.holds.1.0 in
             let w' = place_map {R' = Both (Both R (Keeps D D')) (Kept Ps A B)} (λ u m r. ((r.0, r.1.0), r.1.1)) w in
-            and_i here rest h ((leaves_is Ps (cut D D' h s)).1 w'),
+            and_i here rest h ((leaves_is {start = start_by D D' start} {end = end_by D D' end} {R = Both R (Keeps D D')} Ps (cut D D' h s)).1 w'),
       )
 
   segment_places : (Ps : List WholePlane) → T (segment_in_view Ps A B) ↔ Place (Kept Ps A B)
