@@ -105,6 +105,7 @@ module _ (u : Bool) (j : ℕ) where
 
   listed_beyond : (y : ℤ) (B : WholeBox) (Bs : List WholeBox) → CornerCoordinate j y (B ∷ Bs) → Beyond u (listed B Bs u j) y
   listed_beyond y B Bs (own k h e) = own_beyond B Bs y k h e
+  listed_beyond y B [] (other c) = elim c [ ]
   listed_beyond y B (C ∷ Cs) (other c) =
       beyond_trans u (listed B (C ∷ Cs) u j) (listed C Cs u j) y (extreme_second u (extent_of B u j) (listed C Cs u j)) (listed_beyond y C Cs c)
 
