@@ -117,9 +117,9 @@ pub placing : {s : List ℤ} → BoxNumbers s → quarter_turned (box_of s) ≡ 
 placing {s} b e =
     let B = box_of s in
     let q = quarter B e in
-    let x = q.along-x in
-    let y = q.along-y in
-    let z = q.along-z in record {
+    let x = q.along_x in
+    let y = q.along_y in
+    let z = q.along_z in record {
       numbers = b;
       low = record { x = x.low; y = y.low; z = z.low };
       high = record { x = x.high; y = y.high; z = z.high };

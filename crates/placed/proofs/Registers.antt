@@ -1,7 +1,7 @@
 -- Numbers of 32 bits: those of the grid are read as they were written, and a point that a placement moves stays small. The idea: a bound on the size of each number on
 -- the way. Assumes nothing.
 use mathlib.Core.Path.{◌≡◌, ap, ◌∙◌}
-use Prim.Native.Nat.{ℕ, ◌+◌, ◌*◌, ◌^◌, ◌≤◌, ◌<◌}
+use Prim.Native.Nat.{ℕ, ◌+◌, ◌*◌, ◌^◌, ◌≤◌}
 use native.Mathlib.Nat.{le_trans, lt_of_le_of_lt}
 use lib.Dec.{lit<, lit≤}
 use lib.IntN.{ℤ, nat_abs, ◌+ℤ◌, ◌*ℤ◌}

@@ -3,8 +3,6 @@ use mathlib.Core.Path.{refl, sym, ap, ◌∙◌}
 use mathlib.Core.List.{[], ◌∷◌}
 use Prim.Native.Nat.{ℕ}
 use native.Mathlib.Omega.{arith}
-use borrow.Author.Rules.{rules}
-use borrow.Author.Tests.{not-true, not-false}
 use lib.ListN.{take}
 use lib.IntN.{pos}
 use Rattle.placed.specs.Numbers.{are_whole_numbers, whole_numbers}
@@ -26,10 +24,9 @@ returns-then-not-place c =
 
 pub returns : goal.returns
 returns c =
-    let S = LOOK L.before.before.before.before in
-    let v = S.args.volume.now in
-    let b = S.args.bbox.now in
-    let w = ap (λ (n : ℕ). are_whole_numbers (take n v)) (sym S.requires.2) ∙ sym LOOK L.load.ensures.0 ∙ not-false _ LOOK E.if1.false in
-    let q = sym LOOK P.place.ensures.0 ∙ not-false _ LOOK F.if2.false in
-    let e = LOOK L.load.ensures.1 (not-false _ LOOK E.if1.false) ∙ ap (λ (n : ℕ). whole_numbers (take n v)) S.requires.2 in
-    decided_by v b S.requires.0 w q (pos 0 ∷ pos 0 ∷ pos 0 ∷ pos 0 ∷ []) refl _ _ _ _ e (LOOK P.place.ensures.1 (not-false _ LOOK F.if2.false)) c.intersects_bbox.ensures
+    let v = c.args.volume.now in
+    let b = c.args.bbox.now in
+    let w = ap (λ (n : ℕ). are_whole_numbers (take n v)) (sym c.requires.2) ∙ sym c.load.ensures.0 ∙ c.if-not-load.false in
+    let q = sym c.place.ensures.0 ∙ c.if-not-place.false in
+    let e = c.load.ensures.1 c.if-not-load.false ∙ ap (λ (n : ℕ). whole_numbers (take n v)) c.requires.2 in
+    decided_by v b c.requires.0 w q (pos 0 ∷ pos 0 ∷ pos 0 ∷ pos 0 ∷ []) refl _ _ _ _ e (c.place.ensures.1 c.if-not-place.false) c.intersects_bbox.ensures

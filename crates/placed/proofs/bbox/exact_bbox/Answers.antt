@@ -1,7 +1,6 @@
 -- `exact_bbox` meets its contract: the refusals of the filed verdict by its checks, and then the verdict on the grid. Assumes nothing.
 use mathlib.Core.Path.{sym, ap, ◌∙◌}
 use native.Mathlib.Omega.{arith}
-use borrow.Author.Rules.{rules}
 use borrow.Author.Tests.{eq-eqb, ne_eqb}
 use Rattle.number.specs.Limits.{box_length}
 use Rattle.verdict.specs.BBox.{is_flag}
@@ -19,6 +18,10 @@ returns-then-bbox-ne-BOX_LENGTH c =
     let v = a.volume.now in
     let b = a.bbox.now in
     refused_first v b 1 (wrong_length _ _ _ _ _ (one_input box_length b ∙ ne_eqb _ _ c.if-bbox-ne-BOX_LENGTH.true) ∙ box_call v b)
+
+pub slice_bounds-room-end : goal.slice_bounds-room-end
+slice_bounds-room-end c =
+    let h = held _ _ (was_held _ _ _ _ _ (ap held_of (sym c.in-Planes.is) ∙ c.checked.ensures)) in omega (arith, c.view_length.ensures, h.most)
 
 pub by_grid-requires : goal.by_grid-requires
 by_grid-requires c =

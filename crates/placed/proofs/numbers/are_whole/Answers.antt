@@ -1,11 +1,6 @@
 -- `are_whole` meets its contract: what was found of the numbers passed, and those left, decide. Assumes nothing.
-use mathlib.Core.Path.{◌≡◌, refl, ◌∙◌}
-use mathlib.Core.Bool.{◌&&◌}
-use Prim.Native.Nat.{◌-◌, ◌≤◌}
+use mathlib.Core.Path.{refl, ◌∙◌}
 use native.Mathlib.Omega.{arith}
-use borrow.Author.Rules.{rules}
-use lib.ListN.{take, drop}
-use Rattle.placed.specs.Numbers.{are_whole_numbers}
 use Rattle.placed.proofs.Loading.{more, done}
 use Rattle.placed.proofs.numbers.are_whole.Goals as goal
 

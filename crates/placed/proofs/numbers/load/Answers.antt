@@ -1,21 +1,14 @@
 -- `load` meets its contract: the numbers are whole or nothing is stored, and what was stored so far are so many of them. Assumes nothing.
-use mathlib.Core.Path.{◌≡◌, refl, sym, ◌∙◌}
-use mathlib.Core.Bool.{true, false≢true}
-use Prim.Native.Nat.{◌-◌, ◌≤◌}
+use mathlib.Core.Path.{refl, sym, ◌∙◌}
+use mathlib.Core.Bool.{false≢true}
 use native.Mathlib.Omega.{arith}
-use borrow.Author.Rules.{rules}
-use borrow.Author.Tests.{not-true, not-false}
 use lib.ListN.{length, length-set, take}
-use lib.Seq.{paste, paste-zero}
-use Rattle.placed.specs.Numbers.{are_whole_numbers, whole_numbers}
+use lib.Seq.{paste-zero}
+use Rattle.placed.specs.Numbers.{whole_numbers}
 use Rattle.placed.proofs.Registers.{kept_as}
 use Rattle.placed.proofs.Truncation.{whole_small}
 use Rattle.placed.proofs.Loading.{one_of, stored, all_stored}
 use Rattle.placed.proofs.numbers.load.Goals as goal
-
--- the test passed before the loop
-all_whole : (c : tie.At-loop invariant_loop decreases_loop) → let a = c.before.before.before.before.args in are_whole_numbers (take (length a.out.now) a.from.now) ≡ true
-all_whole c = sym c.before.before.are-whole.ensures ∙ not-false _ c.before.if1.false
 
 pub returns-then-not-are_whole : goal.returns-then-not-are_whole
 returns-then-not-are_whole c = (sym c.if-not-are_whole.true ∙ c.are_whole.ensures, λ e. absurd (false≢true e))
@@ -29,13 +22,13 @@ pub whole_of-requires : goal.whole_of-requires
 whole_of-requires c =
     let l = c.loop-i in
     let a = c.args in
-    one_of a.from.now (length a.out.now) c.requires l.i (omega arith) (all_whole LOOK-PLACE L)
+    one_of a.from.now (length a.out.now) c.requires l.i (omega arith) (sym c.are_whole.ensures ∙ c.if-not-are_whole.false)
 
 pub loop-i-preserved : goal.loop-i-preserved
 loop-i-preserved c =
     let l = c.loop-i in
     let a = c.args in
-    let w = one_of a.from.now (length a.out.now) c.requires l.i (omega arith) (all_whole LOOK-PLACE L) in (
+    let w = one_of a.from.now (length a.out.now) c.requires l.i (omega arith) (sym c.are_whole.ensures ∙ c.if-not-are_whole.false) in (
       omega arith,
       stored a.from.now a.out.now c.requires l.i (omega arith) l.out _ l.invariant.1 (kept_as _ _ c.whole_of.ensures (whole_small _ w)),
       simp length-set l.invariant.2,
@@ -45,4 +38,4 @@ pub returns : goal.returns
 returns c =
     let l = c.loop-i in
     let a = c.args in
-    (sym (all_whole LOOK-PLACE c.before), λ e. all_stored a.from.now a.out.now c.requires l.i (omega arith) l.out l.invariant.1)
+    (sym c.if-not-are_whole.false ∙ c.are_whole.ensures, λ e. all_stored a.from.now a.out.now c.requires l.i (omega arith) l.out l.invariant.1)

@@ -1,16 +1,9 @@
 -- `load` meets its contract: the numbers are whole or nothing is stored, and what was stored so far are so many of them. Assumes nothing.
-use mathlib.Core.Path.{◌≡◌, refl, sym, ◌∙◌}
-use mathlib.Core.Bool.{true, false≢true}
+use mathlib.Core.Path.{◌≡◌}
 use Prim.Native.Nat.{◌-◌, ◌≤◌}
-use native.Mathlib.Omega.{arith}
-use borrow.Author.Rules.{rules}
-use borrow.Author.Tests.{not-true, not-false}
-use lib.ListN.{length, length-set, take}
-use lib.Seq.{paste, paste-zero}
-use Rattle.placed.specs.Numbers.{are_whole_numbers, whole_numbers}
-use Rattle.placed.proofs.Registers.{kept_as}
-use Rattle.placed.proofs.Truncation.{whole_small}
-use Rattle.placed.proofs.Loading.{one_of, stored, all_stored}
+use lib.ListN.{length, take}
+use lib.Seq.{paste}
+use Rattle.placed.specs.Numbers.{whole_numbers}
 use Rattle.placed.proofs.numbers.load.Given as goal
 
 abbrev pub invariant-loop-i : goal.invariant-loop-i

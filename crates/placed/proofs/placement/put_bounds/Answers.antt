@@ -1,7 +1,6 @@
 -- `put_bounds` meets its contract: six numbers, each put at its place. Assumes nothing.
 use mathlib.Core.Path.{◌∙◌}
 use native.Mathlib.Omega.{arith}
-use borrow.Author.Rules.{rules}
 use lib.Dec.{lit<}
 use lib.ListN.{set, length-set}
 use Rattle.placed.proofs.Registers.{kept_as}

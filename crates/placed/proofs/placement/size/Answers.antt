@@ -1,13 +1,9 @@
 -- `size` meets its contract: below 0 the negation, which fits since the number is far from the least. Assumes nothing.
-use mathlib.Core.Path.{sym, ap, subst, ◌∙◌}
-use native.Mathlib.Nat.{lt_of_le_of_lt}
-use borrow.Author.Rules.{rules}
-use lib.Dec.{T, lit<}
-use lib.IntN.{ℤ, nat_abs}
-use lib.Signed.{non_neg}
+use mathlib.Core.Path.{ap, ◌∙◌}
+use lib.Dec.{lit<}
+use lib.IntN.{nat_abs}
 use mir.Syntax.{w32}
-use mir.Val.{Fits}
-use Rattle.whole.proofs.Registers.{itself, read, held_fits, negation, negated, below_zero, from_zero, abs_negation, test_read}
+use Rattle.whole.proofs.Registers.{itself, read, negation, abs_negation}
 use Rattle.placed.proofs.placement.size.Goals as goal
 
 pub returns-then-x-lt0 : goal.returns-then-x-lt0

@@ -2,7 +2,6 @@
 use mathlib.Core.Path.{ap, ◌∙◌}
 use Prim.Native.Nat.{◌+◌, ◌*◌}
 use native.Mathlib.Omega.{arith}
-use borrow.Author.Rules.{rules}
 use Rattle.whole.specs.SegmentCall.{number_at}
 use Rattle.placed.proofs.Registers.{kept_as}
 use Rattle.placed.proofs.Moved.{box_sized}

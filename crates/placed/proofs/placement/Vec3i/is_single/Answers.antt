@@ -1,12 +1,8 @@
 -- `Vec3i::is_single` meets its contract: three sizes and their sum. Assumes nothing.
 use mathlib.Core.Path.{ap, ◌∙◌}
-use Prim.Native.Nat.{◌+◌, ◌≤◌}
-use native.Mathlib.Nat.{lt_of_le_of_lt}
-use native.Mathlib.Omega.{arith}
-use borrow.Author.Rules.{rules}
-use lib.Dec.{lit<, eqb}
+use Prim.Native.Nat.{◌+◌}
+use lib.Dec.{eqb}
 use lib.IntN.{nat_abs}
-use Rattle.number.specs.Limits.{distance_limit}
 use Rattle.placed.proofs.Registers.{kept}
 use Rattle.placed.proofs.placement.Vec3i.is_single.Goals as goal
 
