@@ -1,7 +1,7 @@
 -- Two exact points that are one place satisfy the same planes; and a point on three planes is the place of their vertex. The idea: over one k their distances from a
 -- plane are the same. Assumes nothing.
 use mathlib.Core.Path.{◌≡◌, sym, ◌∙◌}
-use Prim.Native.Nat.{ℕ, suc, ◌*◌, ◌≤◌, ◌<◌}
+use Prim.Native.Nat.{ℕ, suc, ◌*◌, ◌<◌}
 use native.Mathlib.Omega.{arith}
 use lib.Dec.{le→leb, lit<}
 use lib.IntN.{ℤ, pos, negsuc, nat_abs, ◌-ℤ◌, ◌*ℤ◌, ◌+ℤ◌}
