@@ -45,10 +45,10 @@ same x = x
 pub returns : goal.returns
 unfolding flat_map
 returns c =
-    let a = LOOK turned.before.args in
-    let by = of_columns a.matrix a.inverse _ LOOK turned.transpose.ensures in
+    let a = c.args in
+    let by = of_columns a.matrix a.inverse _ c.transpose-columns.ensures in
     let at = of_signs a.matrix a.inverse in
-    listed a.matrix a.inverse (by false (λ m. m.r0) _ LOOK left.at_least.ensures) (by true (λ m. m.r0) _ LOOK right.at_most.ensures)
-    (by false (λ m. m.r1) _ LOOK bottom.at-least2.ensures) (by true (λ m. m.r1) _ LOOK top.at-most2.ensures) (by false (λ m. m.r2) _ LOOK near.at-least3.ensures)
+    listed a.matrix a.inverse (by false (λ m. m.r0) _ c.at_least-left.ensures) (by true (λ m. m.r0) _ c.at_most-right.ensures)
+    (by false (λ m. m.r1) _ c.at_least-bottom.ensures) (by true (λ m. m.r1) _ c.at_most-top.ensures) (by false (λ m. m.r2) _ c.at_least-near.ensures)
     (by true (λ m. m.r2) _ c.at_most-far.ensures) (at neg neg _ c.edge-left_bottom.ensures) (at neg same _ c.edge-left_top.ensures) (at same same _ c.edge-right_top.ensures)
     (at same neg _ c.edge-right_bottom.ensures)
