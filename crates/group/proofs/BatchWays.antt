@@ -19,7 +19,7 @@ use Rattle.group.specs.Batch.{slots_by, boxes_in_view, intersects_boxes_call}
 -- where a volume and what is lent beside it pass, there is room
 pub was_room : (v : List Float) (room flags finite : Bool) (n : ℕ) → outcome n ≡ planes_checked v room flags finite → room ≡ true
 unfolding planes_checked
-was_room v room flags finite n e = (passed (planes_held v) room flags (all_finite v && finite) outcome n (sym e)).room-passed
+was_room v room flags finite n e = (passed (planes_held v) room flags (all_finite v && finite) outcome n (sym e)).room_passed
 
 module _ (v s : List Float) (out : List ℕ) where
   abbrev slots : ℕ → Outcome (List ℕ)

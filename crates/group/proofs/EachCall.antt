@@ -51,10 +51,10 @@ batch_is_each_call v s room l e = go (are_records box_length s) refl e
         let n = k.by in
         let i = k.is in
         let m : slots_by (planes_of v n) (records_of box_length s) ≡ l = cc in
-        let w = both_hold (all_finite v) (all_finite s) k.finite-passed in
+        let w = both_hold (all_finite v) (all_finite s) k.finite_passed in
         record {
           verdicts = map (seen (planes_of v n)) (records_of box_length s);
-          calls = each v n k.holds w.0 (record_count box_length s) s (records_length box_length s p) k.flags-passed w.1;
+          calls = each v n k.holds w.0 (record_count box_length s) s (records_length box_length s p) k.flags_passed w.1;
           slots = sym m ∙ sym (map-map slot_of (seen (planes_of v n)) (records_of box_length s));
         }
     go false p q = let z : ◌≡◌ {A = ℕ} 0 1 = cc in absurd (omega (arith, z))

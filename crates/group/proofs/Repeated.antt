@@ -70,6 +70,7 @@ after {a} b e {ss = t ∷ ts} g (call out room r) =
 
 pub left_is : {ss : List (List Float)} → AllGood ss → {last : List Float} → LeftToRight ss (last ∷ []) → last ≡ grouped ss
 unfolding grouped combined_with
+left_is {ss = []} g x = elim x [ ]
 left_is {ss = s ∷ []} g none = refl
 left_is {ss = s ∷ t ∷ ts} g (call out room r) =
     after (combined (box_of s) (box_of t)) (ap (λ (x : Reply Float). x.out) (writes g.0 g.1.0 out room)) g.1.1 r
@@ -83,9 +84,9 @@ record Left (ss : List (List Float)) : Type 0 where
 
 -- from a record on: a copy of it serves as the slice that is lent
 from : {a : List Float} → Good a → (ss : List (List Float)) → AllGood ss → Left (a ∷ ss)
-from {a} A [] g = record { last = a; calls = none }
-from {a} A (t ∷ ts) g =
-    let r = from (called_good A g.0 a A.numbers) ts g.1 in
+from {a = a} A [] g = record { last = a; calls = none }
+from {a = a} A (t ∷ ts) g =
+    let r = from {a = (combine_call a t a).out} (called_good A g.0 a A.numbers) ts g.1 in
     record { last = r.last; calls = call a A.numbers r.calls }
 
 from_first : (f : ℕ → List Float) (n : ℕ) → 0 < n → AllGood (tabulate f n) → Left (tabulate f n)

@@ -23,7 +23,7 @@ loop-i-preserved c =
     let all : length a.boxes.now ≡ length a.out.now * box_length = c.requires in (
       omega (arith, many),
       many ∙ l.invariant.1,
-      one_passed (take a.planes (planes_in_rows a.rows.now most_planes)) (length a.out.now) a.boxes.now l.out l.i _ _ l.invariant.1 all (omega (arith, l.invariant.1)) LOOK-PLACE at.«record».ensures c.box_in_view.ensures
+      one_passed (take a.planes (planes_in_rows a.rows.now most_planes)) (length a.out.now) a.boxes.now l.out l.i _ _ l.invariant.1 all (omega (arith, l.invariant.1)) c.«record».ensures c.box_in_view.ensures
           ∙ l.invariant.2,
     )
 

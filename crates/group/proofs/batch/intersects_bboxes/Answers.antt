@@ -42,7 +42,7 @@ returns-in-Planes c =
     let n = c.in-Planes.planes in
     let is = ap held_of (sym c.in-Planes.is) ∙ c.checked.ensures in
     let kept = was_held _ _ _ _ n is in
-    let planes = first_planes (plane_in_rows c.load.new.1.0) most_planes n (held _ _ kept).most ∙ planes_held_in n a.volume.now _ kept c.load.ensures.1 in
+    let planes = first_planes (plane_in_rows c.load.new.rows) most_planes n (held _ _ kept).most ∙ planes_held_in n a.volume.now _ kept c.load.ensures.1 in
     ap write (c.answer.ensures ∙ ap₂ (λ (ps : List Plane) (k : ℕ). slots_by ps (records box_length k a.boxes.now)) planes (eqb-true _ _ (was_room _ _ _ _ n is)))
     ∙ by_checks _ _ _ c.if-boxes-eq0.false c.if-boxes-ne0.false _ _ _ _ is refl c.all_flagged.ensures c.all_finite.ensures
 

@@ -1,7 +1,7 @@
 -- `group::all_flagged` meets its contract: the records left decide. Assumes nothing.
 -- of the records left the first is record i, and its flag stands where it is read
 use mathlib.Core.Path.{◌≡◌, refl, sym, ap, ◌∙◌}
-use mathlib.Core.Bool.{Bool}
+use mathlib.Core.Bool.{Bool, not}
 use mathlib.Core.List.{List, ◌∷◌}
 use Prim.Native.Nat.{ℕ, ◌+◌, ◌-◌, ◌*◌, ◌<◌, ◌≤◌}
 use native.Mathlib.Omega.{arith}
@@ -32,13 +32,13 @@ pub returns-then-not-is_flag : goal.returns-then-not-is_flag
 returns-then-not-is_flag c =
     let l = c.loop-i in
     let a = c.args in
-    fails flagged _ _ _ (left a.count a.boxes.now l.i (omega arith)) _ (read _ l.i _ c.is_flag.ensures) c.if-not-is_flag.true ∙ l.invariant.1
+    fails flagged _ _ _ (left a.count a.boxes.now l.i (omega arith)) _ (read _ l.i _ c.is_flag.ensures) (ap not c.if-not-is_flag.true) ∙ l.invariant.1
 
 pub loop-i-preserved : goal.loop-i-preserved
 loop-i-preserved c =
     let l = c.loop-i in
     let a = c.args in
-    (omega arith, holds flagged _ _ _ (left a.count a.boxes.now l.i (omega arith)) _ (read _ l.i _ c.is_flag.ensures) c.if-not-is_flag.false ∙ l.invariant.1)
+    (omega arith, holds flagged _ _ _ (left a.count a.boxes.now l.i (omega arith)) _ (read _ l.i _ c.is_flag.ensures) (ap not c.if-not-is_flag.false) ∙ l.invariant.1)
 
 pub returns : goal.returns
 returns c =

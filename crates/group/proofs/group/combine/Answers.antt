@@ -25,7 +25,7 @@ no_more left none b = sym (ap (combined_with b) none)
 pub loop-i-init : goal.loop-i-init
 loop-i-init c =
     let a = c.args in
-    let e = c.from_record-group.ensures ∙ ap box_of LOOK-PLACE c.before.«record».ensures in
+    let e = c.from_record-group.ensures ∙ ap box_of c.«record».ensures in
     (omega arith, omega arith, ap (λ (b : BBox3d). combined_with b (drop 1 (records box_length a.count a.boxes.now))) e)
 
 pub loop-i-preserved : goal.loop-i-preserved

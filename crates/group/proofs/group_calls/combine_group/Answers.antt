@@ -1,5 +1,6 @@
 -- `group_calls::combine_group` meets its contract: the size, the lengths and the flags by its tests, the result by what it calls. Assumes nothing.
 use mathlib.Core.Path.{refl, ap, ◌∙◌}
+use mathlib.Core.Bool.{not}
 use native.Mathlib.Nat.{div-add-mod'}
 use native.Mathlib.Omega.{arith}
 use borrow.Author.Rules.{rules}
@@ -25,15 +26,15 @@ returns-then-out-ne-BOX_LENGTH c =
 
 pub returns-then-not-all_flagged : goal.returns-then-not-all_flagged
 returns-then-not-all_flagged c =
-    no_flag _ _ c.if-boxes-eq0.false c.if-boxes-gt-MOST_NUMBERS.false c.if-boxes-ne0.false c.if-out-ne-BOX_LENGTH.false _ c.all_flagged.ensures c.if-not-all_flagged.true
+    no_flag _ _ c.if-boxes-eq0.false c.if-boxes-gt-MOST_NUMBERS.false c.if-boxes-ne0.false c.if-out-ne-BOX_LENGTH.false _ c.all_flagged.ensures (ap not c.if-not-all_flagged.true)
 
 pub returns-then-count-eq1 : goal.returns-then-count-eq1
 returns-then-count-eq1 c =
     let s = c.args.boxes.now in
-    written _ _ c.if-boxes-eq0.false c.if-boxes-gt-MOST_NUMBERS.false c.if-boxes-ne0.false c.if-out-ne-BOX_LENGTH.false _ c.all_flagged.ensures c.if-not-all_flagged.false _ _
+    written _ _ c.if-boxes-eq0.false c.if-boxes-gt-MOST_NUMBERS.false c.if-boxes-ne0.false c.if-out-ne-BOX_LENGTH.false _ c.all_flagged.ensures (ap not c.if-not-all_flagged.false) _ _
     (omega (arith, c.if-count-eq1.true, c.if-boxes-ne0.false, div-add-mod' (length s) box_length)) c.store.ensures (single s c.if-count-eq1.true c.if-boxes-ne0.false)
 
 pub returns : goal.returns
 returns c =
-    written _ _ c.if-boxes-eq0.false c.if-boxes-gt-MOST_NUMBERS.false c.if-boxes-ne0.false c.if-out-ne-BOX_LENGTH.false _ c.all_flagged.ensures c.if-not-all_flagged.false _ _
+    written _ _ c.if-boxes-eq0.false c.if-boxes-gt-MOST_NUMBERS.false c.if-boxes-ne0.false c.if-out-ne-BOX_LENGTH.false _ c.all_flagged.ensures (ap not c.if-not-all_flagged.false) _ _
     refl c.store-2.ensures (ap numbers c.combine.ensures ∙ several _ _ (search rules))
