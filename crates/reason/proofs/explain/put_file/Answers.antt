@@ -107,10 +107,15 @@ put_boxes-requires c =
     let n = lent g.file.now g.count g.slots.now c.requires.0 g.numbers.now c.requires.1 _ c.section_at.ensures in
     let few = c.requires.0.few in
     let long = boxes_long g.file.now g.count g.slots.now c.requires.0 g.numbers.now c.requires.1 _ c.section_at.ensures in
-    let are = ap length (boxes_is g.file.now g.count g.slots.now c.requires.0 g.numbers.now c.requires.1 _ c.section_at.ensures) in (
-      (omega (arith, are, long, n), omega (arith, n, few)),
-      (all_seen g.file.now g.count g.slots.now c.requires.0 g.numbers.now c.requires.1 _ c.section_at.ensures, omega (arith, n, few, c.requires.2)),
-    )
+    let are = ap length (boxes_is g.file.now g.count g.slots.now c.requires.0 g.numbers.now c.requires.1 _ c.section_at.ensures) in record {
+      boxes_len = (omega (arith, are, long, n), omega (arith, n, few));
+      all_seen = (all_seen g.file.now g.count g.slots.now c.requires.0 g.numbers.now c.requires.1 _ c.section_at.ensures, omega (arith, n, few, c.requires.2));
+    }
+
+pub slice_bounds-put_boxes-end-2 : goal.slice_bounds-put_boxes-end-2
+slice_bounds-put_boxes-end-2 c =
+    let g = c.args in
+    fits g.file.now g.count g.slots.now c.requires.0 g.numbers.now c.requires.1 _ c.section_at.ensures
 
 pub returns : goal.returns
 returns c =
