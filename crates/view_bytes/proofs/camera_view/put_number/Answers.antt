@@ -2,12 +2,12 @@
 use mathlib.Core.Path.{◌≡◌, ap}
 use Prim.Native.Nat.{ℕ}
 use borrow.Author.Rules.{rules}
-use lib.Ieee.{Float, binary64, toBits}
+use lib.Ieee.{Float, binary64, to_bits}
 use Rattle.farm.proofs.Texts.{puts_meant}
 use Rattle.view_bytes.specs.CameraView.{bytes_of, number_bytes}
 use Rattle.view_bytes.proofs.camera_view.put_number.Goals as goal
 
-of_pattern : (w : ℕ) (x : Float) → w ≡ toBits binary64 x → bytes_of 8 w ≡ number_bytes x
+of_pattern : (w : ℕ) (x : Float) → w ≡ to_bits binary64 x → bytes_of 8 w ≡ number_bytes x
 unfolding number_bytes
 of_pattern w x e = ap (bytes_of 8) e
 
