@@ -1,12 +1,13 @@
-"""What the scripts beside it share: the edits of crates/*/must-fail, and copies of the repository in which they are tried."""
+"""What the scripts beside it share: the edits of crates/*/must-fail and crates/*/edits, and a copy of the repository in which they are tried."""
 import contextlib, pathlib, shutil, subprocess, tempfile
 
 ROOT = pathlib.Path(__file__).resolve().parent.parent
+GATE, MORE, HARMLESS = "must-fail", "edits/more", "edits/harmless"
 
 
-def named(files):
-    """The names of edits, CRATE/LABEL, by their files."""
-    return sorted(f"{file.relative_to(ROOT).parts[1]}/{file.stem}" for file in files)
+def named(folder):
+    """The names of all edits in a folder of the crates, CRATE/LABEL."""
+    return sorted(f"{file.relative_to(ROOT).parts[1]}/{file.stem}" for file in ROOT.glob(f"crates/*/{folder}/*.edit"))
 
 
 def crate_of(edit):
@@ -14,9 +15,9 @@ def crate_of(edit):
 
 
 def file_of(edit, *folders):
-    """An edit's file, in the first of these folders below must-fail that has it."""
-    crate, label = edit.split("/")
-    files = [ROOT / "crates" / crate / "must-fail" / folder / (label + ".edit") for folder in folders]
+    """An edit's file, in the first of these folders of its crate that has it."""
+    crate, _, label = edit.partition("/")
+    files = [ROOT / "crates" / crate / folder / (label + ".edit") for folder in folders]
     return next((file for file in files if file.exists()), None)
 
 
@@ -32,7 +33,7 @@ def pairs(path):
 
 
 class Misfit(Exception):
-    """Why an edit cannot be made, or is none of those asked for."""
+    """Why an edit cannot be made, or what is made of it cannot be read."""
 
 
 @contextlib.contextmanager
@@ -54,23 +55,30 @@ def made(copy, edit, path):
 
 @contextlib.contextmanager
 def copied():
-    """A copy of the repository, with what was proved of it."""
+    """A copy of what is proved, without edits. There `rt` begins with what checks on this machine kept of the same crates."""
     with tempfile.TemporaryDirectory() as folder:
-        yield shutil.copytree(ROOT, pathlib.Path(folder) / "0", ignore=shutil.ignore_patterns(".git", "compare"))
+        copy = pathlib.Path(folder)
+        for name in "crates.txt", "HANDLES":
+            if (ROOT / name).exists():
+                shutil.copyfile(ROOT / name, copy / name)
+        for part in "src", "specs", "proofs":
+            for source in ROOT.glob(f"crates/*/{part}"):
+                shutil.copytree(source, copy / source.relative_to(ROOT))
+        yield copy
 
 
-def ran(copy, *words):
-    """Whether rt ends well, and what it says."""
-    run = subprocess.run(["rt", *words], cwd=copy, capture_output=True, text=True)
-    return run.returncode == 0, (run.stdout + run.stderr).replace(str(copy) + "/", "")
+def ran(folder, *words):
+    """How rt ends in a folder, and what it says."""
+    run = subprocess.run(["rt", *words], cwd=folder, stdin=subprocess.DEVNULL, stdout=subprocess.PIPE, stderr=subprocess.STDOUT, text=True)
+    return run.returncode, run.stdout
 
 
 def checked(copy, crate):
-    """Whether the edit loop proves a crate, and what it says first if not."""
-    proved, said = ran(copy, "dev", crate)
-    told = [line for line in said.splitlines() if ": error: " in line or ": no proof: " in line]
+    """Whether a crate is proved, and what the check says first if not."""
+    status, said = ran(copy / "crates" / crate, "check")
+    told = [line for line in said.splitlines() if ": error: " in line or line.endswith("no proof")]
     facts = [line for line in told if "was not admitted" not in line]
-    return proved, (facts or told or [said[-300:]])[0]
+    return status == 0, (facts or told or [said[-300:]])[0]
 
 
 def count(answers, good):
