@@ -5,20 +5,22 @@ import subprocess
 from pathlib import Path
 
 HERE = Path(__file__).resolve().parent
-# Where the programs stand beside the tools: in the repository, or as `install` puts both under a prefix.
-BESIDE = HERE.parent / "target/bin" if HERE.name == "office" else HERE.parent.parent / "bin"
 
 
 class Unanswered(Exception):
     """Why a program gives no answer: it is not found, does not run, or ends badly."""
 
 
+def beside(name):
+    """Where a program stands beside the tools: in the repository, or as `install` puts both under a prefix."""
+    return HERE.parent / "crates" / name / "out" / name if HERE.name == "office" else HERE.parent.parent / "bin" / name
+
+
 def found(name):
     """The program to run: the one that the variable of its name names, the one beside the tools, or the first in PATH."""
-    beside = BESIDE / name
-    program = os.environ.get(name.upper()) or (str(beside) if beside.is_file() else shutil.which(name))
+    program = os.environ.get(name.upper()) or (str(beside(name)) if beside(name).is_file() else shutil.which(name))
     if not program:
-        raise Unanswered(f"the program {name} is not found: `rt check {name}` makes it, or {name.upper()} names it")
+        raise Unanswered(f"the program {name} is not found: `rt run` in crates/{name} makes it, or {name.upper()} names it")
     return program
 
 
