@@ -99,10 +99,10 @@ module _ (f : ℕ → Float) where
 
         next : (b : Bool) → lt c.next (f n) ≡ b → is_nan (cond b (f n) c.next) ≡ false
         next true k = a_number c.next (f n) k
-        next false k = H.next-number
+        next false k = H.next_number
 
         left : (b : Bool) (y : Float) → reaches y (cond b (upper_of c.next (f n)) c.furthest) ≡ (reaches y (cond b c.next c.furthest) && reaches y (f n))
-        left true y = upper_reached y c.next (f n) H.next-number
+        left true y = upper_reached y c.next (f n) H.next_number
         left false y = not_past y c.furthest (f n) H.number e
 
     one_more : Held (suc n) (with_cut c (f n) n)
