@@ -8,7 +8,7 @@ use lib.ListN.{length}
 use lib.Ieee.{Float}
 use lib.Ieee.Scale.{finite}
 use Rattle.number.specs.Limits.{box_length}
-use Rattle.number.specs.Answer.{Outcome, refused, outcome, and_then, unless}
+use Rattle.number.specs.Answer.{refused, outcome, unless}
 use Rattle.number.specs.Slice.{all_finite}
 use Rattle.number.specs.Records.{record_at, records, record_count, records_of, are_records}
 use Rattle.number.proofs.Tests.{both_hold}

@@ -1,7 +1,7 @@
 -- A batch: many boxes, each asked of one view, as `intersects_bbox` does. Definitions and statements only.
 use Rattle.std.specs.Prelude.{ℕ, ◌≡◌, Bool, cond, ◌&&◌, List, map, Float}
 use Rattle.number.specs.Limits.{box_length}
-use Rattle.number.specs.Answer.{Reply, Outcome, refused, outcome, and_then, unless, has, replied}
+use Rattle.number.specs.Answer.{Reply, Outcome, refused, outcome, unless, has, replied}
 use Rattle.number.specs.Slice.{all_finite}
 use Rattle.number.specs.Records.{record_count, records_of, are_records}
 use Rattle.verdict.specs.BBox.{box_of}

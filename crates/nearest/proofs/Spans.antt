@@ -1,17 +1,14 @@
 -- The squared distance of a range that is not empty, along each axis by the largest of 0 and two differences. The idea: where the span is not turned round a number is on one side of it at
 -- most, so that one of the differences is above zero at most. Assumes nothing.
 use mathlib.Core.Path.{◌≡◌, refl, sym, ap, ◌∙◌, subst}
-use mathlib.Core.Bool.{Bool, true, false, cond, not, ◌||◌, ◌&&◌}
-use lib.Count.{count_trailing_zeros}
+use mathlib.Core.Bool.{Bool, true, false, cond, ◌||◌}
 use lib.Dec.{T}
-use lib.Ieee.{Float, lt, le, mul, round, units, odd, size, span, climb}
-use Rattle.number.specs.Arithmetic.{◌⊕◌, ◌⊖◌, ◌⊗◌, zero_of, upper_of}
+use lib.Ieee.{Float, lt, mul, round, units, odd, size, span, climb}
+use Rattle.number.specs.Arithmetic.{◌⊖◌, zero_of, upper_of}
 use Rattle.number.specs.Extremes.{Value}
 use Rattle.number.proofs.Comparisons.{le_through, lt_not_le, lt_le, refuted, not_less, less_is_number}
 use Rattle.matrix.specs.Constants.{positive_zero}
-use Rattle.matrix.specs.Range.{squared, span_distance_squared, is_empty, distance_squared}
-use Rattle.matrix.specs.declared.range.Range3d.{Range3d}
-use Rattle.matrix.specs.declared.vec.Vec3d.{Vec3d}
+use Rattle.matrix.specs.Range.{squared, span_distance_squared}
 use Rattle.nearest.proofs.Differences.{beyond}
 
 none_is : positive_zero ≡ zero_of false

@@ -1,7 +1,6 @@
 -- How many numbers a volume's record has. Assumes nothing.
 use mathlib.Core.Path.{◌≡◌, ap}
 use mathlib.Core.List.{List, flat_map}
-use Prim.Native.Nat.{ℕ}
 use lib.ListN.{length}
 use lib.Ieee.{Float}
 use Rattle.number.specs.Tabulate.{tabulate}

@@ -5,7 +5,7 @@ use lib.Count.{count_trailing_zeros}
 use lib.Ieee.{add, sub, mul, div, neg, lt, le, eq, is_nan, round, sum, units, odd, size, span, climb}
 use Rattle.number.specs.Tabulate.{tabulate}
 use Rattle.number.specs.Answer.{leaving}
-use Rattle.number.specs.Arithmetic.{abs_of, min_of, max_of}
+use Rattle.number.specs.Arithmetic.{abs_of, max_of}
 use Rattle.number.specs.Root.{sqrt_of}
 use Rattle.number.specs.Every.{every}
 use Rattle.matrix.specs.Matrix.{product}

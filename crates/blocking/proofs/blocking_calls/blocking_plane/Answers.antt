@@ -1,6 +1,5 @@
 -- `blocking_calls::blocking_plane` meets its contract: each way out is the call's. Assumes nothing.
 use mathlib.Core.Path.{sym, ap, ap₂, ◌∙◌}
-use borrow.Author.Rules.{rules}
 use Rattle.number.specs.Answer.{verdict_of, outcome}
 use Rattle.verdict.specs.View.{held_of}
 use Rattle.verdict.proofs.PlanesHeld.{held, has_planes}

@@ -1,7 +1,6 @@
 -- `cuts::blocking_plane` meets its contract by what it calls. Assumes nothing.
 use mathlib.Core.Path.{sym, ap, ◌∙◌}
 use native.Mathlib.Omega.{arith}
-use borrow.Author.Rules.{rules}
 use Rattle.number.specs.Answer.{outcome}
 use Rattle.number.specs.Places.{places_below, first_of}
 use Rattle.verdict.specs.View.{plane_at}

@@ -1,15 +1,8 @@
 -- `cuts_of` meets its contract: the cuts are those of the planes passed. Assumes nothing.
-use mathlib.Core.Path.{◌≡◌, sym, ap, ◌∙◌}
-use Prim.Native.Nat.{ℕ, ◌+◌, ◌-◌, ◌≤◌}
-use native.Mathlib.Numerals.{add-one}
-use native.Mathlib.Omega.{arith}
-use borrow.Author.Rules.{rules}
-use Rattle.matrix.specs.declared.vec.Vec3d.{Vec3d}
-use Rattle.verdict.specs.declared.plane.Plane.{Plane}
+use mathlib.Core.Path.{◌≡◌}
+use Prim.Native.Nat.{◌-◌, ◌≤◌}
 use Rattle.verdict.specs.View.{plane_at}
-use Rattle.blocking.specs.declared.cuts.Cuts.{Cuts}
-use Rattle.blocking.specs.Steps.{cut_below, cuts_with, cuts_below}
-use Rattle.blocking.proofs.PlaneRead.{read}
+use Rattle.blocking.specs.Steps.{cuts_below}
 use Rattle.blocking.proofs.cuts.cuts_of.Given as goal
 
 abbrev pub invariant-loop-i : goal.invariant-loop-i

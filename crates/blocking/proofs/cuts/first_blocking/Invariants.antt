@@ -1,13 +1,8 @@
 -- `first_blocking` meets its contract: no place that is passed leaves some of the segment. Assumes nothing.
 -- none of the first n leaves some
-use mathlib.Core.Path.{◌≡◌, sym, ap, ◌∙◌}
-use mathlib.Core.Bool.{Bool, false}
-use mathlib.Core.Logic.{◌⊎◌, inl, inr}
-use Prim.Native.Nat.{ℕ, ◌+◌, ◌-◌, ◌≤◌, ◌<◌}
-use native.Mathlib.Omega.{arith}
-use borrow.Author.Rules.{rules}
-use Rattle.number.specs.Answer.{nowhere, found, outcome}
-use Rattle.number.proofs.PlacesBelow.{below_or_last, finds}
+use mathlib.Core.Path.{◌≡◌}
+use mathlib.Core.Bool.{false}
+use Prim.Native.Nat.{ℕ, ◌-◌, ◌≤◌, ◌<◌}
 use Rattle.blocking.specs.declared.cuts.Cuts.{Cuts}
 use Rattle.blocking.specs.Steps.{leave_without}
 use Rattle.blocking.proofs.cuts.first_blocking.Given as goal

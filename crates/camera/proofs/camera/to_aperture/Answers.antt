@@ -1,6 +1,5 @@
 -- `to_aperture` meets its contract by the cases of the kind. Assumes nothing.
 use mathlib.Core.Path.{◌≡◌, sym, ap, ◌∙◌}
-use borrow.Author.Rules.{rules}
 use lib.Ieee.{Float, binary64, of_bits}
 use Rattle.number.specs.Arithmetic.{◌⊗◌, ◌⊘◌}
 use Rattle.matrix.proofs.Literals.{one_bits}

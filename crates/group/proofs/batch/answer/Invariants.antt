@@ -1,15 +1,12 @@
 -- `batch::answer` meets its contract: the slots in front and the boxes left decide. Assumes nothing.
-use mathlib.Core.Path.{◌≡◌, refl, ◌∙◌}
-use Prim.Native.Nat.{◌-◌, ◌*◌, ◌≤◌}
-use native.Mathlib.Omega.{arith}
-use borrow.Author.Rules.{rules}
-use mir.Val.{bool_byte}
-use lib.ListN.{length, take, length-set}
+use mathlib.Core.Path.{◌≡◌}
+use Prim.Native.Nat.{◌-◌, ◌≤◌}
+use lib.ListN.{length, take}
 use Rattle.number.specs.Limits.{box_length, most_planes}
 use Rattle.number.specs.Records.{records}
 use Rattle.verdict.specs.Rows.{planes_in_rows}
 use Rattle.group.specs.Batch.{slots_by}
-use Rattle.group.proofs.Slots.{all_slots, one_passed, all_passed}
+use Rattle.group.proofs.Slots.{all_slots}
 use Rattle.group.proofs.batch.answer.Given as goal
 
 abbrev pub invariant-loop-i : goal.invariant-loop-i

@@ -3,9 +3,8 @@
 use mathlib.Core.Path.{◌≡◌, refl, sym, ap, ◌∙◌}
 use mathlib.Core.Bool.{Bool, not}
 use mathlib.Core.List.{List, ◌∷◌}
-use Prim.Native.Nat.{ℕ, ◌+◌, ◌-◌, ◌*◌, ◌<◌, ◌≤◌}
+use Prim.Native.Nat.{ℕ, ◌+◌, ◌*◌, ◌<◌}
 use native.Mathlib.Omega.{arith}
-use borrow.Author.Rules.{rules}
 use lib.ListN.{drop}
 use lib.Ieee.{Float}
 use Rattle.number.specs.Limits.{box_length, flag_place}
@@ -16,7 +15,6 @@ use Rattle.number.proofs.Records.{number_at_lem}
 use Rattle.number.proofs.ListLoops.{fails, holds, all_hold}
 use Rattle.verdict.specs.BBox.{is_flag}
 use Rattle.verdict.specs.BBoxCalls.{flagged}
-use Rattle.group.specs.Group.{all_flagged}
 use Rattle.group.proofs.group.all_flagged.Goals as goal
 
 left : (n : ℕ) (s : List Float) (i : ℕ) → i < n → drop i (records box_length n s) ≡ record_at box_length s i ∷ drop (i + 1) (records box_length n s)

@@ -1,9 +1,7 @@
 -- `group::combine` meets its contract: the box so far and the records left decide. Assumes nothing.
 use mathlib.Core.Path.{◌≡◌, refl, sym, ap, ◌∙◌}
 use mathlib.Core.List.{List, [], ◌∷◌}
-use Prim.Native.Nat.{◌-◌, ◌≤◌}
 use native.Mathlib.Omega.{arith}
-use borrow.Author.Rules.{rules}
 use Rattle.number.specs.Limits.{box_length}
 use lib.ListN.{drop}
 use lib.Ieee.{Float}

@@ -1,16 +1,10 @@
 -- `group::combine` meets its contract: the box so far and the records left decide. Assumes nothing.
-use mathlib.Core.Path.{◌≡◌, refl, sym, ap, ◌∙◌}
-use mathlib.Core.List.{List, [], ◌∷◌}
+use mathlib.Core.Path.{◌≡◌}
 use Prim.Native.Nat.{◌-◌, ◌≤◌}
-use native.Mathlib.Omega.{arith}
-use borrow.Author.Rules.{rules}
 use Rattle.number.specs.Limits.{box_length}
 use lib.ListN.{drop}
-use lib.Ieee.{Float}
 use Rattle.number.specs.Records.{record_at, records}
-use Rattle.number.proofs.Tabulate.{next, none}
-use Rattle.verdict.specs.BBox.{box_of, combined}
-use Rattle.verdict.specs.declared.bbox.BBox3d.{BBox3d}
+use Rattle.verdict.specs.BBox.{box_of}
 use Rattle.group.specs.Group.{combined_with}
 use Rattle.group.proofs.group.combine.Given as goal
 

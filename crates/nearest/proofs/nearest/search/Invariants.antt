@@ -1,10 +1,6 @@
 -- `nearest::search` meets its contract: what is known of the place found is kept from range to range. Assumes nothing.
-use mathlib.Core.Path.{refl, sym, ap, ◌∙◌, subst}
-use Prim.Native.Nat.{ℕ, ◌+◌, ◌-◌, ◌≤◌}
-use native.Mathlib.Omega.{arith}
-use Rattle.matrix.specs.declared.range.Range3d.{Range3d}
-use Rattle.nearest.specs.Steps.{with_range}
-use Rattle.nearest.proofs.Steps.{Held, at_first, next, at_last}
+use Prim.Native.Nat.{◌-◌, ◌≤◌}
+use Rattle.nearest.proofs.Steps.{Held}
 use Rattle.nearest.proofs.nearest.search.Given as goal
 
 abbrev pub invariant-loop-i : goal.invariant-loop-i

@@ -1,7 +1,6 @@
 -- `nearest_calls::nearest` meets its contract: each way out is the call's. Assumes nothing.
 use mathlib.Core.Path.{sym, ap, ◌∙◌}
 use native.Mathlib.Omega.{arith}
-use borrow.Author.Tests.{not-true, not-false}
 use Rattle.matrix.specs.declared.vec.Vec3d.{Vec3d}
 use Rattle.nearest.specs.Nearest.{nearest_of}
 use Rattle.nearest.specs.Steps.{place_number}

@@ -1,8 +1,6 @@
 -- `nearest_calls::within` meets its contract: each way out is the call's. Assumes nothing.
 use mathlib.Core.Path.{sym, ap, ◌∙◌}
 use native.Mathlib.Omega.{arith}
-use borrow.Author.Rules.{rules}
-use borrow.Author.Tests.{not-true, not-false}
 use lib.ListN.{length}
 use Rattle.number.specs.Slots.{slots_of}
 use Rattle.matrix.specs.declared.vec.Vec3d.{Vec3d}

@@ -1,6 +1,5 @@
 -- `projection::kind_number` meets its contract by the cases of the kind. Assumes nothing.
 use mathlib.Core.Path.{◌∙◌, sym, ap}
-use borrow.Author.Rules.{rules}
 use Rattle.matrix.proofs.Literals.{zero_bits, one_bits}
 use Rattle.projection.specs.Projection.{kind_number}
 use Rattle.projection.proofs.projection.kind_number.Goals as goal

@@ -1,6 +1,5 @@
 -- `projection_calls::from_matrix` meets its contract: the lengths by its tests, the result by what it calls. Assumes nothing.
 use mathlib.Core.Path.{refl, sym, ◌∙◌}
-use borrow.Author.Rules.{rules}
 use borrow.Author.Tests.{eq-eqb, ne_eqb}
 use Rattle.projection.specs.Projection.{recovered_numbers}
 use Rattle.projection.specs.ProjectionCalls.{recovery_call}

@@ -1,6 +1,5 @@
 -- `projection_calls::matrix` meets its contract: the lengths by its tests, the result by what it calls. Assumes nothing.
 use mathlib.Core.Path.{refl, sym, ap, ◌∙◌}
-use borrow.Author.Rules.{rules}
 use borrow.Author.Tests.{eq-eqb, ne_eqb}
 use Rattle.number.specs.Answer.{write}
 use Rattle.matrix.specs.declared.matrix.Mat4d.{Mat4d}

@@ -1,7 +1,6 @@
 -- `rays::answer` meets its contract by what it calls. Assumes nothing.
 use mathlib.Core.Path.{sym, ap, ◌∙◌}
 use Prim.Native.Nat.{ℕ, ◌*◌}
-use borrow.Author.Rules.{rules}
 use Rattle.number.specs.Limits.{hit_length}
 use Rattle.rays.proofs.rays.answer.Goals as goal
 

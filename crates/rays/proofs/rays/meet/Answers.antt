@@ -1,9 +1,8 @@
 -- `rays::meet` meets its contract: what is filled in front and the rays left decide. Assumes nothing.
 use mathlib.Core.Path.{◌≡◌, refl, sym, ap, ◌∙◌}
-use mathlib.Core.List.{List, map, map-map}
-use Prim.Native.Nat.{◌+◌, ◌-◌, ◌*◌, ◌≤◌}
+use mathlib.Core.List.{List, map-map}
+use Prim.Native.Nat.{◌+◌, ◌*◌, ◌≤◌}
 use native.Mathlib.Omega.{arith}
-use borrow.Author.Rules.{rules}
 use lib.ListN.{length, length-set, set}
 use lib.Ieee.{Float}
 use Rattle.number.specs.Limits.{ray_length, hit_length}
@@ -11,9 +10,9 @@ use Rattle.number.specs.Records.{records}
 use Rattle.verdict.specs.declared.ray.Ray.{Ray}
 use Rattle.verdict.specs.declared.ray.Triangle.{Triangle}
 use Rattle.verdict.specs.Ray.{meeting_of, hit_in, hit_of}
-use Rattle.rays.specs.Rays.{landed, hit_numbers}
-use Rattle.rays.specs.Steps.{hit_on, hits_on}
-use Rattle.rays.proofs.Passed.{all_slots, all_numbers_lem, slot_passed, number_passed, stored_length, slots_passed, numbers_passed}
+use Rattle.rays.specs.Rays.{landed}
+use Rattle.rays.specs.Steps.{hit_on}
+use Rattle.rays.proofs.Passed.{all_numbers_lem, slot_passed, number_passed, stored_length, slots_passed, numbers_passed}
 use Rattle.rays.proofs.rays.meet.Goals as goal
 
 answered : (r : Ray) (t : Triangle) → hit_in (meeting_of r t) ≡ hit_of r t

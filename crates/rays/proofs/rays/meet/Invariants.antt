@@ -1,19 +1,13 @@
 -- `rays::meet` meets its contract: what is filled in front and the rays left decide. Assumes nothing.
-use mathlib.Core.Path.{◌≡◌, refl, sym, ap, ◌∙◌}
-use mathlib.Core.List.{List, map, map-map}
-use Prim.Native.Nat.{◌+◌, ◌-◌, ◌*◌, ◌≤◌}
-use native.Mathlib.Omega.{arith}
-use borrow.Author.Rules.{rules}
-use lib.ListN.{length, length-set, set}
-use lib.Ieee.{Float}
-use Rattle.number.specs.Limits.{ray_length, hit_length}
+use mathlib.Core.Path.{◌≡◌}
+use mathlib.Core.List.{map}
+use Prim.Native.Nat.{◌-◌, ◌≤◌}
+use lib.ListN.{length}
+use Rattle.number.specs.Limits.{ray_length}
 use Rattle.number.specs.Records.{records}
-use Rattle.verdict.specs.declared.ray.Ray.{Ray}
-use Rattle.verdict.specs.declared.ray.Triangle.{Triangle}
-use Rattle.verdict.specs.Ray.{meeting_of, hit_in, hit_of}
 use Rattle.rays.specs.Rays.{landed, hit_numbers}
 use Rattle.rays.specs.Steps.{hit_on, hits_on}
-use Rattle.rays.proofs.Passed.{all_slots, all_numbers_lem, slot_passed, number_passed, stored_length, slots_passed, numbers_passed}
+use Rattle.rays.proofs.Passed.{all_slots, all_numbers_lem}
 use Rattle.rays.proofs.rays.meet.Given as goal
 
 abbrev pub invariant-loop-i : goal.invariant-loop-i

@@ -1,10 +1,8 @@
 -- `edge` meets its contract, by what it calls. Assumes nothing.
 use mathlib.Core.Path.{◌≡◌, ap, ap₂, ◌∙◌}
-use borrow.Author.Rules.{rules}
 use lib.Ieee.{Float, neg, binary64, of_bits}
 use Rattle.matrix.specs.Vec.{difference, normalized}
 use Rattle.matrix.specs.Constants.{positive_zero, one}
-use Rattle.matrix.specs.Transform.{transformed}
 use Rattle.matrix.specs.declared.vec.Vec3d.{Vec3d}
 use Rattle.matrix.specs.declared.matrix.Mat4d.{Mat4d}
 use Rattle.matrix.proofs.Literals.{zero_bits, one_bits}

@@ -3,14 +3,12 @@
 use mathlib.Core.Path.{◌≡◌, refl, sym, ap, ap₂, ◌∙◌}
 use mathlib.Core.Bool.{Bool, true, false}
 use mathlib.Core.List.{List}
-use borrow.Author.Rules.{rules}
-use borrow.Author.Tests.{eq-eqb, ne_eqb, not-true, not-false}
-use lib.ListN.{length}
+use borrow.Author.Tests.{eq-eqb, ne_eqb}
 use lib.Ieee.{Float}
 use Rattle.number.proofs.Ways.{both, no_input, no_room, left, written}
 use Rattle.number.specs.Answer.{Outcome, refused, outcome, unless, replied}
 use Rattle.number.specs.Slice.{all_finite}
-use Rattle.matrix.specs.Matrix.{matrix_of, product}
+use Rattle.matrix.specs.Matrix.{product}
 use Rattle.matrix.specs.Inverse.{inverse}
 use Rattle.matrix.specs.declared.matrix.Mat4d.{Mat4d}
 use Rattle.matrix.specs.declared.inverse.Inverted.{Inverted}

@@ -1,12 +1,11 @@
 -- `numbers` meets its contract: each plane is its side and each ray its edge. Assumes nothing.
-use mathlib.Core.Path.{◌≡◌, ap, ap₂, ◌∙◌}
+use mathlib.Core.Path.{◌≡◌, ap, ◌∙◌}
 use mathlib.Core.Bool.{Bool, true, false}
 use mathlib.Core.List.{List, [], ◌∷◌, ◌++◌, flat_map}
-use borrow.Author.Rules.{rules}
 use lib.IntN.{pos}
 use lib.Ieee.{Float, neg, binary64, of_bits, of_int}
 use Rattle.number.specs.Tabulate.{tabulate}
-use Rattle.matrix.specs.Constants.{rounded, one}
+use Rattle.matrix.specs.Constants.{one}
 use Rattle.matrix.specs.Matrix.{transpose}
 use Rattle.matrix.specs.declared.matrix.Mat4d.{Mat4d}
 use Rattle.matrix.specs.declared.vec.Vec4d.{Vec4d}

@@ -1,6 +1,5 @@
 -- `Camera::is_finite` meets its contract, by what it calls. Assumes nothing.
 use mathlib.Core.Path.{ap, ◌∙◌}
-use borrow.Author.Rules.{rules}
 use Rattle.number.specs.Slice.{all_finite}
 use Rattle.camera.proofs.camera.Camera.is_finite.Goals as goal
 

@@ -1,7 +1,6 @@
 -- `Camera::numbers` meets its contract, number by number. Assumes nothing.
 use mathlib.Core.Path.{◌≡◌}
 use mathlib.Core.List.{[], ◌∷◌, ◌++◌}
-use borrow.Author.Rules.{rules}
 use lib.Ieee.{Float}
 use Rattle.matrix.specs.Matrix.{entries}
 use Rattle.projection.specs.Projection.{kind_number}

@@ -1,8 +1,6 @@
 -- `Camera::opened` meets its contract: its ways out are the cases of the definition, in their order. Assumes nothing.
 use mathlib.Core.Path.{◌≡◌, refl, sym, ap, ap₂, ◌∙◌}
 use mathlib.Core.Bool.{Bool, true, false}
-use borrow.Author.Rules.{rules}
-use borrow.Author.Tests.{not-true, not-false}
 use lib.Ieee.{Float}
 use Rattle.number.specs.Answer.{unless}
 use Rattle.number.specs.Slice.{all_finite}

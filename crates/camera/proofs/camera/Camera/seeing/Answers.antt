@@ -1,6 +1,5 @@
 -- `Camera::seeing` meets its contract: each number is its formula, narrowed once. Assumes nothing.
 use mathlib.Core.Path.{◌≡◌, ◌∙◌}
-use borrow.Author.Rules.{rules}
 use lib.Ieee.{Float, binary64, of_bits}
 use Rattle.number.specs.Arithmetic.{◌⊕◌, ◌⊗◌}
 use Rattle.number.specs.Format.{narrow_of}

@@ -1,6 +1,5 @@
 -- `Camera::set_from_view_and_projection` meets its contract, by what it calls. Assumes nothing.
 use mathlib.Core.Path.{◌≡◌, ap₂, ◌∙◌}
-use borrow.Author.Rules.{rules}
 use lib.Ieee.{Float}
 use Rattle.matrix.specs.declared.inverse.Inverted.{Inverted}
 use Rattle.projection.specs.declared.projection.Recovered.{Recovered}

@@ -1,7 +1,6 @@
 -- `Camera::store` meets its contract, by what it calls. Assumes nothing.
 use mathlib.Core.Path.{ap, ◌∙◌}
 use mathlib.Core.List.{List}
-use borrow.Author.Rules.{rules}
 use lib.Ieee.{Float}
 use Rattle.number.specs.Slice.{stored}
 use Rattle.camera.proofs.camera.Camera.store.Goals as goal

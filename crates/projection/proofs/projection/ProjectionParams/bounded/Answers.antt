@@ -2,7 +2,6 @@
 -- six tests from the first on, and from the last
 use mathlib.Core.Path.{◌≡◌, refl, ◌∙◌}
 use mathlib.Core.Bool.{Bool, true, false, ◌&&◌}
-use borrow.Author.Rules.{rules}
 use lib.Ieee.Scale.{finite}
 use Rattle.number.specs.Every.{every, every_below}
 use Rattle.number.specs.Slice.{all_finite}

@@ -1,6 +1,5 @@
 -- `ProjectionParams::matrix` meets its contract by the cases of the kind. Assumes nothing.
 use mathlib.Core.Path.{◌≡◌, ◌∙◌, sym, ap}
-use borrow.Author.Rules.{rules}
 use Rattle.matrix.specs.declared.matrix.Mat4d.{Mat4d}
 use Rattle.projection.specs.declared.projection.Projection.{Projection}
 use Rattle.projection.specs.declared.projection.ProjectionParams.{ProjectionParams}

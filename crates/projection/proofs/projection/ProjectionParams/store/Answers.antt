@@ -1,7 +1,6 @@
 -- `ProjectionParams::store` meets its contract: by those of `kind_number` and of the copy. Assumes nothing.
 use mathlib.Core.Path.{◌≡◌, ap, ◌∙◌}
 use mathlib.Core.List.{List, ◌∷◌}
-use borrow.Author.Rules.{rules}
 use lib.Ieee.{Float}
 use Rattle.number.specs.Slice.{stored}
 use Rattle.projection.specs.declared.projection.ProjectionParams.{ProjectionParams}
