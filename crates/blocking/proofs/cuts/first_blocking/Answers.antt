@@ -1,5 +1,4 @@
 -- `first_blocking` meets its contract: no place that is passed leaves some of the segment. Assumes nothing.
--- none of the first n leaves some
 use mathlib.Core.Path.{◌≡◌, sym, ap, ◌∙◌}
 use mathlib.Core.Bool.{Bool, false}
 use mathlib.Core.Logic.{◌⊎◌, inl, inr}

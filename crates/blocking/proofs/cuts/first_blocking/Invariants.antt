@@ -1,5 +1,4 @@
 -- `first_blocking` meets its contract: no place that is passed leaves some of the segment. Assumes nothing.
--- none of the first n leaves some
 use mathlib.Core.Path.{◌≡◌}
 use mathlib.Core.Bool.{false}
 use Prim.Native.Nat.{ℕ, ◌-◌, ◌≤◌, ◌<◌}
@@ -7,6 +6,7 @@ use Rattle.blocking.specs.declared.cuts.Cuts.{Cuts}
 use Rattle.blocking.specs.Steps.{leave_without}
 use Rattle.blocking.proofs.cuts.first_blocking.Given as goal
 
+-- none of the first n leaves some
 abbrev pub Passed : Cuts → ℕ → Type 0
 Passed cuts n = (j : ℕ) → j < n → leave_without cuts j ≡ false
 

@@ -1,5 +1,4 @@
 -- `camera::inverse` meets its contract: the parts that it calls make up the inverse. Assumes nothing.
--- of the matrix that was read
 use mathlib.Core.Path.{◌≡◌, ap, ◌∙◌}
 use lib.Ieee.{Float, binary64, of_bits}
 use Rattle.matrix.specs.Inverse.{inverse_above, inverse}
@@ -9,6 +8,7 @@ use Rattle.matrix.proofs.Literals.{singular_bits}
 use Rattle.matrix.proofs.Composed.{adjugate_rows, inverse_from}
 use Rattle.camera.proofs.camera.inverse.Goals as goal
 
+-- of the matrix that was read
 of_read : (m n : Mat4d) (v : Inverted) → m ≡ n → v ≡ inverse_above (of_bits binary64 0x3d71_9799_812d_ea11) m → v ≡ inverse n
 of_read m n v p q = q ∙ ap (λ (e : Float). inverse_above e m) singular_bits ∙ ap inverse p
 

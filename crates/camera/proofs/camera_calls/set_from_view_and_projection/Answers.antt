@@ -1,5 +1,4 @@
 -- `camera_calls::set_from_view_and_projection` meets its contract: the lengths by its tests, the result by what it calls. Assumes nothing.
--- of the matrices that were read
 use mathlib.Core.Path.{◌≡◌, refl, sym, ap, ◌∙◌}
 use mathlib.Core.Bool.{true}
 use mathlib.Core.List.{List}
@@ -16,6 +15,7 @@ use Rattle.camera.specs.declared.camera.Set.{Set}
 use Rattle.camera.specs.Camera.{opened, camera_from, set_numbers, camera_call}
 use Rattle.camera.proofs.camera_calls.set_from_view_and_projection.Goals as goal
 
+-- of the matrices that were read
 found : (view projection : List Float) (f : Float) (s : Set) → has matrix_length projection ≡ true → s ≡ opened (inverse (matrix_of view)) (recovered_from projection) f
     → s ≡ camera_from (matrix_of view) (matrix_of projection) f
 unfolding camera_from

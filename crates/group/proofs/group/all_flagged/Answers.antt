@@ -1,5 +1,4 @@
 -- `group::all_flagged` meets its contract: the records left decide. Assumes nothing.
--- of the records left the first is record i, and its flag stands where it is read
 use mathlib.Core.Path.{◌≡◌, refl, sym, ap, ◌∙◌}
 use mathlib.Core.Bool.{Bool, not}
 use mathlib.Core.List.{List, ◌∷◌}
@@ -17,6 +16,7 @@ use Rattle.verdict.specs.BBox.{is_flag}
 use Rattle.verdict.specs.BBoxCalls.{flagged}
 use Rattle.group.proofs.group.all_flagged.Goals as goal
 
+-- of the records left the first is record i, and its flag stands where it is read
 left : (n : ℕ) (s : List Float) (i : ℕ) → i < n → drop i (records box_length n s) ≡ record_at box_length s i ∷ drop (i + 1) (records box_length n s)
 left n s i h = next (record_at box_length s) n i _ h refl
 

@@ -1,5 +1,4 @@
 -- `group::all_flagged` meets its contract: the records left decide. Assumes nothing.
--- of the records left the first is record i, and its flag stands where it is read
 use mathlib.Core.Path.{◌≡◌}
 use Prim.Native.Nat.{◌-◌, ◌≤◌}
 use lib.ListN.{drop}

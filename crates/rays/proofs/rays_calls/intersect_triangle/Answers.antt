@@ -1,5 +1,4 @@
 -- `rays_calls::intersect_triangle` meets its contract: the lengths by its tests, the result by what it calls. Assumes nothing.
--- the hits on the triangle that was made are those on its points
 use mathlib.Core.Path.{◌≡◌, sym, ap, ◌∙◌}
 use mathlib.Core.List.{List}
 use Prim.Native.Nat.{ℕ, ◌*◌}
@@ -16,6 +15,7 @@ use Rattle.rays.specs.Steps.{hits_on}
 use Rattle.rays.proofs.Ways.{no_ray, uneven, no_first, no_second, no_third, no_room, no_slots, done}
 use Rattle.rays.proofs.rays_calls.intersect_triangle.Goals as goal
 
+-- the hits on the triangle that was made are those on its points
 on_points : (s : List Float) (n m : ℕ) (t : Triangle) (a b c x y z : Vec3d) → n ≡ m → t ≡ triangle_of a b c → a ≡ x → b ≡ y → c ≡ z
     → hits_on t (records ray_length n s) ≡ hits_of (records ray_length m s) x y z
 unfolding triangle_hit

@@ -1,5 +1,4 @@
 -- `from_view_and_projection` meets its contract: the lengths by its tests, the result by what it calls. Assumes nothing.
--- the reply by what was found: the product of what was read, and its inverse
 use mathlib.Core.Path.{◌≡◌, refl, sym, ap, ap₂, ◌∙◌}
 use mathlib.Core.Bool.{Bool, true, false}
 use mathlib.Core.List.{List}
@@ -17,6 +16,7 @@ use Rattle.volume.specs.Volume.{numbers, finite_only, clip_volume_by, clip_volum
 use Rattle.volume.proofs.Counted.{count}
 use Rattle.volume.proofs.volume.from_view_and_projection.Goals as goal
 
+-- the reply by what was found: the product of what was read, and its inverse
 module _ (out : List Float) {a b a' b' : Mat4d} (p : a ≡ a') (q : b ≡ b') (m : Mat4d) (r : m ≡ product a b) (i : Inverted) (h : i ≡ inverse m) where
   found : {j : Inverted} {o : Outcome (List Float)} → i ≡ j → o ≡ clip_volume_by m j → replied o out ≡ replied (clip_volume (product a' b')) out
   unfolding clip_volume

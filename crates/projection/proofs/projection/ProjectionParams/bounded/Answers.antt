@@ -1,5 +1,4 @@
 -- `ProjectionParams::bounded` meets its contract, by what it calls. Assumes nothing.
--- six tests from the first on, and from the last
 use mathlib.Core.Path.{◌≡◌, refl, ◌∙◌}
 use mathlib.Core.Bool.{Bool, true, false, ◌&&◌}
 use lib.Ieee.Scale.{finite}
@@ -10,6 +9,7 @@ use Rattle.projection.specs.declared.projection.ProjectionParams.{ProjectionPara
 use Rattle.projection.specs.Projection.{extent, bounded}
 use Rattle.projection.proofs.projection.ProjectionParams.bounded.Goals as goal
 
+-- six tests from the first on, and from the last
 six : (a b c d e f : Bool) → (a && (b && (c && (d && (e && (f && true)))))) ≡ (((((a && b) && c) && d) && e) && f)
 six false b c d e f = refl
 six true false c d e f = refl
