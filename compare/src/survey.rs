@@ -233,7 +233,7 @@ fn box_roots(view: &Volume, block: &Boxed) -> Vec<f64> {
 }
 
 /// The engine's own rule for planes whose normal's length is not needed:
-/// `filteredOf` of crates/verdict/specs/Steps/Filter.antt is trusted and tells
+/// `filtered_of` of crates/verdict/specs/Steps/Filter.antt is trusted and tells
 /// the side.
 fn filter_settles(range: gf::Range3d, carried: gf::Vec4d) -> bool {
     let (min, max) = (range.min(), range.max());
