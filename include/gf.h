@@ -1,6 +1,6 @@
 /* Nugyarvit's geometry operations for C and C++, on x86-64.
  *
- * Link libgf.a, which `rt staticlib gf` makes; once it is installed, `pkg-config --cflags --libs gf` names both. It needs memcpy
+ * Link libgf.a, which `rt lib` in crates/gf makes; once it is installed, `pkg-config --cflags --libs gf` names both. It needs memcpy
  * and memset of the C library and nothing else. Every function is proved to meet its contract (crates/gf/src), for all lengths
  * and all numbers. The functions keep nothing from call to call, so that threads may call them at once.
  *

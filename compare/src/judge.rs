@@ -165,7 +165,7 @@ mod tests {
     }
 
     #[test]
-    fn the_papers_grid_points() {
+    fn the_grid_points() {
         let centimetres = |x: f64| grid(&[x; 3]).map(|whole| whole[0].to_bits());
         let passes = |n: f64| Ok(n.to_bits());
         let refused = Err(OFF_GRID);

@@ -1,4 +1,4 @@
-//! The farm file of paper 02, read by its words, with the Rust's verdict on
+//! The farm file, read by the words of its form, with the Rust's verdict on
 //! each box: the judge of `gf_farm_file` and of the programs.
 
 use crate::judge::{
@@ -320,7 +320,7 @@ mod tests {
         }
     }
 
-    /// The paper's smallest file: the volume and a box in view, written out.
+    /// The smallest file: the volume and a box in view, written out.
     #[test]
     fn one_box_in_view() {
         let mut file: Vec<u8> = vec![2, 0, 0, 0, 20, 0, 0, 0, 0x88, 1, 0, 0, 0x9c, 1, 0, 0, 0xb8, 0, 0, 0];

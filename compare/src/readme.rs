@@ -20,9 +20,9 @@ fn definitions(of: &str) -> BTreeSet<String> {
 
 /// The crate and the file of definitions that a line brings in.
 fn brought(line: &str) -> Option<(String, String)> {
-    let (of, rest) = line.strip_prefix("use Rattle·")?.split_once(".specs.")?;
-    let file = rest.split(['.', '{']).next()?;
-    (file != "declared" && file != "Steps").then(|| (of.trim_end_matches("·specs").into(), file.into()))
+    let (of, rest) = line.strip_prefix("use Rattle.")?.split_once(".specs.")?;
+    let file = rest.split('.').next()?;
+    (of != "std" && file != "Steps").then(|| (of.into(), file.into()))
 }
 
 #[test]

@@ -1,4 +1,4 @@
-//! The Rust's types from paper 01's records, and back.
+//! The Rust's types from the records, and back.
 
 use crate::judge::{FEWEST_PLANES, MOST_PLANES, NO_COUNT, NO_SUCH_VALUE, WRONG_INPUT};
 use openusd::gf::{

@@ -100,7 +100,7 @@ impl Function {
 }
 
 /// A function of numbers and its judge. They agree where the bits are equal
-/// or both are NaN: IEEE 754 and paper 01 fix the signs of these zeros.
+/// or both are NaN: IEEE 754 and the rule fix the signs of these zeros.
 pub struct Scalar {
     pub name: &'static str,
     pub ours: Option<Function>,

@@ -1,4 +1,4 @@
-//! The Rust's ranges with the signs of zeros that paper 02 fixes: what is chosen of two equal numbers has its rule's sign, and all else the Rust's bits.
+//! The Rust's ranges with the signs of zeros that are fixed: what is chosen of two equal numbers has its rule's sign, and all else the Rust's bits.
 
 use crate::inputs::{Matrix, Range};
 use crate::judge::{greatest, least};

@@ -1,4 +1,4 @@
-//! Clip space: boxes and cameras of whole numbers within paper 02's limits,
+//! Clip space: boxes and cameras of whole numbers within its limits,
 //! and exact points that lie just inside, on or just outside a side.
 
 use super::*;

@@ -1,4 +1,4 @@
-//! The farm grid: whole points, planes, turns and boxes within paper 01's
+//! The farm grid: whole points, planes, turns and boxes within its
 //! limits, and segments whose crossings all but coincide.
 
 use super::*;

@@ -1,4 +1,4 @@
-//! Farm files at every boundary, each with the refusal that paper 02 has for
+//! Farm files at every boundary, each with the refusal that is due for
 //! it, or 0.
 
 use super::*;
@@ -12,7 +12,7 @@ pub struct NotableFile {
     pub bytes: Vec<u8>,
 }
 
-/// Blocks in paper 01's cube, touching it, and outside it, in turn.
+/// Blocks in the cube of the marked verdicts, touching it, and outside it, in turn.
 fn block(i: usize) -> Boxed {
     let x = [3.0, 10.0, 11.0, -1.0][i % 4];
     box_of([x, 0.0, 0.0, x + 1.0, 1.0, 1.0], IDENTITY, [0.0, 1.0, -0.0][i % 3])

@@ -183,7 +183,7 @@ mod tests {
     use crate::inputs::{CUBE, IDENTITY, Volume, box_of};
     use crate::rust::planes;
 
-    /// Two boxes beside paper 01's cube, one on either side: docs/VERDICTS.md.
+    /// Two boxes beside the cube of the marked verdicts, one on either side: docs/VERDICTS.md.
     #[test]
     fn a_group_in_view_of_members_that_are_not() {
         let cube = Volume::of(CUBE);

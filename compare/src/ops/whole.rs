@@ -435,7 +435,7 @@ mod tests {
     use super::*;
     use crate::trial::{Outcome, Trial};
 
-    /// Cases 3 to 7 of paper 01's marked verdicts.
+    /// Cases 3 to 7 of the marked verdicts.
     #[test]
     fn the_marked_verdicts() {
         let engine = by(None);
