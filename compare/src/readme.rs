@@ -22,7 +22,7 @@ fn definitions(of: &str) -> BTreeSet<String> {
 fn brought(line: &str) -> Option<(String, String)> {
     let (of, rest) = line.strip_prefix("use Rattle.")?.split_once(".specs.")?;
     let file = rest.split('.').next()?;
-    (of != "std" && file != "Steps").then(|| (of.into(), file.into()))
+    (of != "std" && file != "declared" && file != "Steps").then(|| (of.into(), file.into()))
 }
 
 #[test]
