@@ -1,6 +1,5 @@
 -- `number::normalised` meets its contract. A subnormal magnitude below 2 ^ (j + 1) and not below 2 ^ j has 63 - j leading zeros, and is moved up by 52 - j.
 -- Assumes nothing.
--- the shift that brings a's leading digit to 2 ^ 52
 use Rattle.std.proofs.Common.{◌≡◌, ℕ, zero, suc, ◌+◌, ◌-◌, ◌*◌, ◌/◌, ◌%◌, ◌^◌, ◌<◌, ◌≤◌, sym, refl, ap, ◌∙◌, subst, le_trans, le_of_eq, lt_of_lt_of_le, lt_of_le_of_lt, mul-le-mul_right, mod-lt, mod-eq_of_lt, zero-lt-suc, mul_assoc, lt_of_not-le, div-add-mod', not-le_of_lt, arith, pow_pos, pow_mono, pow-add, shl_lt}
 use lib.Bits.{bit_and, and_mask}
 use lib.Count.{count_leading_zeros, leading_top}
@@ -9,6 +8,7 @@ use Rattle.number.specs.Steps.Magnitude.{Normalised, field_units}
 use Rattle.number.proofs.Fields.{normal}
 use Rattle.number.proofs.normalised.Goals as goal
 
+-- the shift that brings a's leading digit to 2 ^ 52
 record Shift (a z : ℕ) : Type 0 where
   zeros : 11 + z ≡ count_leading_zeros 64 a
   some : z ≤ 52

@@ -1,5 +1,4 @@
 -- `lines::lines` meets its contract: the slots say what the file comes to, and its lines are put in front of a text with room for them. Assumes nothing.
--- the call of `farm_file` is on slots of zeros
 use mathlib.Core.Path.{◌≡◌, refl, sym, ap, ◌∙◌}
 use mathlib.Core.List.{List, map}
 use Prim.Native.Nat.{ℕ}
@@ -18,6 +17,7 @@ use Rattle.farm.proofs.Answers.{boxes_told, refusal_told}
 use Rattle.farm.proofs.Texts.{in_front}
 use Rattle.farm.proofs.lines.lines.Goals as goal
 
+-- the call of `farm_file` is on slots of zeros
 module _ (b l : List ℕ) (a : Counted) (e : listing (counted_of a) l ≡ farm_file_call b (replicate slot_count 0)) where
   boxes : (n : ℕ) → a ≡ Count n → FileAnswered b n l
   boxes n q = boxes_told b (replicate slot_count 0) refl l n (sym (ap (λ (x : Counted). listing (counted_of x) l) q) ∙ e)

@@ -1,5 +1,4 @@
 -- `lines::put_lines` meets its contract: the lines of the boxes passed are in front. Assumes nothing.
--- the lines of the first i slots
 use mathlib.Core.Path.{◌≡◌, refl, sym, ap, ◌∙◌}
 use mathlib.Core.List.{List, [], ◌∷◌, ◌++◌, map, map-append}
 use Prim.Native.Nat.{ℕ, ◌+◌, ◌-◌, ◌*◌, ◌<◌, ◌≤◌}

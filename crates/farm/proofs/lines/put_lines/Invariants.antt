@@ -1,5 +1,4 @@
 -- `lines::put_lines` meets its contract: the lines of the boxes passed are in front. Assumes nothing.
--- the lines of the first i slots
 use mathlib.Core.Path.{◌≡◌, refl, sym, ap, ◌∙◌}
 use mathlib.Core.List.{List, [], ◌∷◌, ◌++◌, map, map-append}
 use Prim.Native.Nat.{ℕ, ◌+◌, ◌-◌, ◌*◌, ◌<◌, ◌≤◌}
@@ -13,6 +12,7 @@ use Rattle.farm.specs.Steps.{Put, is_yes, line_room}
 use Rattle.farm.proofs.Texts.{put_then, put_meant, put_length, lines_more, short_line, short_lines}
 use Rattle.farm.proofs.lines.put_lines.Given as goal
 
+-- the lines of the first i slots
 abbrev pub lines : List ℕ → ℕ → List ℕ
 lines s i = lines_from line 1 (map is_yes (take i s))
 

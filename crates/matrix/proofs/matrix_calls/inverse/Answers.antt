@@ -1,5 +1,4 @@
 -- `matrix_calls::inverse` meets its contract: the lengths by its tests, the reply by what it calls. Assumes nothing.
--- the reply is that of what was found
 use mathlib.Core.Path.{◌≡◌, refl, sym, ap, ◌∙◌}
 use mathlib.Core.List.{List}
 use borrow.Author.Tests.{eq-eqb, ne_eqb}
@@ -15,6 +14,7 @@ use Rattle.matrix.proofs.Literals.{singular_bits}
 use Rattle.matrix.proofs.Composed.{adjugate_rows, inverse_from}
 use Rattle.matrix.proofs.matrix_calls.inverse.Goals as goal
 
+-- the reply is that of what was found
 found : (a out : List Float) (m : Mat4d) (v w : Inverted) → m ≡ matrix_of a → v ≡ inverse_above (of_bits binary64 0x3d71_9799_812d_ea11) m → v ≡ w
     → inverse_reply w out ≡ inverse_reply (inverse (matrix_of a)) out
 found a out m v w p q r =

@@ -1,5 +1,4 @@
 -- `range_calls::is_empty` meets its contract: the length by its test, the verdict by those along the axes. Assumes nothing.
--- a test along an axis, of numbers as they were read
 use mathlib.Core.Path.{◌≡◌, refl}
 use mathlib.Core.Bool.{Bool, true, false}
 use borrow.Author.Tests.{eq-eqb, ne_eqb}
@@ -9,6 +8,7 @@ use Rattle.matrix.specs.RangeCalls.{is_empty_call}
 use Rattle.matrix.proofs.Emptiness.{by_axes}
 use Rattle.matrix.proofs.range_calls.is_empty.Goals as goal
 
+-- a test along an axis, of numbers as they were read
 read : (low high least greatest : Float) (b : Bool) → low ≡ least → high ≡ greatest → lt high low ≡ b → lt greatest least ≡ b
 read low high least greatest b p q t = rw (p, q) at t
 

@@ -1,5 +1,4 @@
 -- `number::format::narrow` meets its contract: the sign's bit goes above the bits of the rounded magnitude. Assumes nothing.
--- the sign's bit, moved
 use Rattle.std.proofs.Common.{◌≡◌, ℕ, ◌+◌, ◌*◌, ◌/◌, ◌%◌, ◌^◌, ◌<◌, ◌≤◌, Bool, true, false, cond, not, T, leb, sym, refl, ap, ◌∙◌, arith, leb→le, rules}
 use lib.Bits.{and_mask}
 use lib.Dec.{nleb→lt}
@@ -13,6 +12,7 @@ use Rattle.number.proofs.Patterns.{number_pattern}
 use Rattle.number.proofs.Reading.{mag, mag_most, sign}
 use Rattle.number.proofs.format.narrow.Goals as goal
 
+-- the sign's bit, moved
 abbrev moved : ℕ → ℕ
 moved b = b / 2 ^ 63 * 2 ^ 31 % 2 ^ 64
 

@@ -1,5 +1,4 @@
 -- `number::grid::grid` meets its contract: each way out is a law over plain lists. Assumes nothing.
--- what the three coordinates decide
 use Rattle.std.proofs.Common.{◌≡◌, ℕ, List, [], ◌∷◌, length, ℤ, sym, refl, ap, ◌∙◌, arith, w32, SFits, to_z, of_z, rules, eq-eqb, ne_eqb}
 use lib.Ieee.{Float, binary64, of_int}
 use mir.ValLaws.{to_z-of_z}
@@ -12,6 +11,7 @@ use Rattle.number.proofs.Ways.{stops, passes}
 use Rattle.number.proofs.Stores.{same_room}
 use Rattle.number.proofs.grid.grid.Goals as goal
 
+-- what the three coordinates decide
 abbrev decided : List Coordinate → List Float → Reply Float
 decided cs out = replied (grid_numbers cs) out
 

@@ -1,7 +1,6 @@
 -- `number::root::root_digits` meets its contract: the laws of `proofs/RootBits.antt`, at what the search found, or beside a power of 4.
 -- There the significand is 2 ^ 52 + k, and the whole root of the number searched 2 ^ 53 + k - 1, or it is 2 ^ 53 - k, and the whole root 2 ^ 54 - k - 1: the
 -- square of what follows it is beyond the number searched by the square of k. Something is left, except where k is 0, and a half stands for it. Assumes nothing.
--- the rounded digits of the root of the number N searched
 use Rattle.std.proofs.Common.{◌≡◌, ℕ, zero, suc, ◌+◌, ◌-◌, ◌*◌, ◌/◌, ◌%◌, ◌^◌, ◌<◌, ◌≤◌, true, ◌&&◌, ltb, sym, ap, ◌∙◌, subst, le_of_lt, mul-le-mul, mul-pos, arith, ltb-true}
 use lib.Ieee.Nearest.{closest}
 use Rattle.number.specs.Root.{root_of, rest_of}
@@ -13,6 +12,7 @@ use Rattle.number.proofs.Tests.{both_hold}
 use Rattle.number.proofs.WholeRoot.{root_unique}
 use Rattle.number.proofs.root.root_digits.Goals as goal
 
+-- the rounded digits of the root of the number N searched
 abbrev digits : ℕ → ℕ
 digits N = closest (2 * root_of N + rest_of (root_of N) N) 4
 

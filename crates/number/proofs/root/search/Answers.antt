@@ -1,6 +1,5 @@
 -- `number::root::search` meets its contract: `AfterBit` of `specs/Search.antt` holds of the loop's variables after the first bit and after each that is tried, by
 -- the contracts of `first` and `tried`. Assumes nothing.
--- the loop's variables after a bit
 use Rattle.std.proofs.Common.{◌≡◌, ℕ, ◌*◌, ◌^◌, ◌<◌, ap, ◌∙◌, arith, lit≤, pow_pos}
 use Rattle.number.proofs.Search.{exact, inexact, root_below}
 use Rattle.number.proofs.root.search.Goals as goal

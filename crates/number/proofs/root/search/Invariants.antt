@@ -1,10 +1,10 @@
 -- `number::root::search` meets its contract: `AfterBit` of `specs/Search.antt` holds of the loop's variables after the first bit and after each that is tried, by
 -- the contracts of `first` and `tried`. Assumes nothing.
--- the loop's variables after a bit
 use Rattle.std.proofs.Common.{ℕ, ◌*◌, ◌^◌, ◌<◌, ◌≤◌}
 use Rattle.number.specs.Search.{AfterBit}
 use Rattle.number.proofs.root.search.Given as goal
 
+-- the loop's variables after a bit
 pub record At (n bit trial left : ℕ) : Type 0 where
   pub after : AfterBit n bit (record { trial = trial; left = left })
   pub bits : bit ≤ 2 ^ 53

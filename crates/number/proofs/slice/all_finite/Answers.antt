@@ -1,6 +1,5 @@
 -- `number::slice::all_finite` meets its contract: what was found of the numbers passed, and those left, decide; just the finite ones times zero are a zero.
 -- Assumes nothing.
--- ---- a number times zero
 use Rattle.std.proofs.Common.{◌≡◌, ℕ, ◌+◌, ◌*◌, ◌<◌, Bool, true, false, ◌&&◌, List, length, get_or, drop, sym, refl, ap, ◌∙◌, mul-pos, mul-zero, add-one, arith, lit<, drop-cons}
 use lib.Seq.{drop-length}
 use lib.Ieee.{Float, nan, inf, fin, binary64, up, unlike, mul, eq, of_bits}
@@ -13,6 +12,7 @@ use Rattle.number.proofs.Tests.{and_true}
 use Rattle.number.proofs.Zeros.{round_zero}
 use Rattle.number.proofs.slice.all_finite.Goals as goal
 
+-- ---- a number times zero
 abbrev zero : Float
 zero = of_bits binary64 0
 

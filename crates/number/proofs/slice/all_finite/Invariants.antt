@@ -1,6 +1,5 @@
 -- `number::slice::all_finite` meets its contract: what was found of the numbers passed, and those left, decide; just the finite ones times zero are a zero.
 -- Assumes nothing.
--- ---- a number times zero
 use Rattle.std.proofs.Common.{◌≡◌, ◌-◌, ◌≤◌, ◌&&◌, length, drop}
 use Rattle.number.specs.Slice.{all_finite}
 use Rattle.number.proofs.slice.all_finite.Given as goal

@@ -1,5 +1,4 @@
 -- `explain` meets its contract: the lines of the boxes, or of a refused file, are put in front of a text. Assumes nothing.
--- the call of `judge` is on slots of zeros
 use mathlib.Core.Path.{◌≡◌, refl, sym, ap, subst, ◌∙◌}
 use mathlib.Core.Bool.{Bool}
 use mathlib.Core.List.{List}
@@ -20,6 +19,7 @@ use Rattle.farm.proofs.Answers.{boxes_told, refusal_told}
 use Rattle.reason.specs.Explained.{Told, ToldBy, Explained}
 use Rattle.reason.proofs.explain.explain.Goals as goal
 
+-- the call of `judge` is on slots of zeros
 module _ (b l : List ℕ) (j : Judgement) (e : Judged b (replicate slot_count 0) j l) where
   abbrev a : Counted
   a = j.answer

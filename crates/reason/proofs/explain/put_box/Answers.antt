@@ -1,5 +1,4 @@
 -- `put_box` meets its contract: the parts of the line, one behind the other. Assumes nothing.
--- a box with a verdict, a text with room for a line, and the parts of the line
 use mathlib.Core.Path.{◌≡◌, sym, ap}
 use mathlib.Core.Bool.{Bool}
 use mathlib.Core.List.{List, [], ◌∷◌, ◌++◌}
@@ -25,6 +24,7 @@ use Rattle.reason.proofs.Texts.{short_verdict, short_behind, short_exact}
 use Rattle.reason.proofs.Boxes.{verdict_is, short_places}
 use Rattle.reason.proofs.explain.put_box.Goals as goal
 
+-- a box with a verdict, a text with room for a line, and the parts of the line
 module _ (v x : List Float) (y : Bool) (e : outcome y ≡ intersects_box_call v x) (t : List ℕ) (at : ℕ) (room : at + reason_room ≤ length t) (k : ℕ) (o : Outcome Bool) where
   abbrev d : List ℕ
   d = decimal k

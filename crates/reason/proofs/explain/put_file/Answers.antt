@@ -1,5 +1,4 @@
 -- `put_file` meets its contract: the numbers in front are those of the volume and of the boxes, and each box has its verdict in a slot. Assumes nothing.
--- a file with c boxes that is answered, its slots and its numbers, and the section of its volume
 use mathlib.Core.Path.{◌≡◌, sym, ap, subst, ◌∙◌}
 use mathlib.Core.Bool.{Bool}
 use mathlib.Core.List.{List, ◌++◌}
@@ -30,6 +29,7 @@ use Rattle.reason.specs.Explained.{file_volume, file_planes, Reasons, Told}
 use Rattle.reason.specs.Steps.{AllSeen, BoxesPut}
 use Rattle.reason.proofs.explain.put_file.Goals as goal
 
+-- a file with c boxes that is answered, its slots and its numbers, and the section of its volume
 module _ (b : List ℕ) (c : ℕ) (slots : List ℕ) (a : FileAnswered b c slots) (numbers : List Float) (f : InFront (file_numbers b) numbers) (s : Section) (q : s ≡ section_at b 0) where
   r : Ready b
   r = ready b a.verdicts a.answer

@@ -1,5 +1,4 @@
 -- `camera_view` meets its contract: the numbers of a volume are put in front of a text with room for them, and a refusal has its line. Assumes nothing.
--- no refusal has the number 0
 use mathlib.Core.Path.{◌≡◌, refl, sym, ap, ◌∙◌}
 use mathlib.Core.List.{List, flat_map}
 use Prim.Native.Nat.{ℕ}
@@ -18,6 +17,7 @@ use Rattle.farm.proofs.Texts.{in_front}
 use Rattle.view_bytes.specs.CameraView.{number_bytes, volume_sent, sent_back, camera_view}
 use Rattle.view_bytes.proofs.camera_view.camera_view.Goals as goal
 
+-- no refusal has the number 0
 line : (r : Refusal) (v : List Float) → refused_line (number_of r) ≡ sent_back (reply (Refused r) v)
 unfolding sent_back
 line InputLength v = refl

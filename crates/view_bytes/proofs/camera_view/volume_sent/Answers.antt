@@ -1,5 +1,4 @@
 -- `volume_sent` meets its contract: the file's length by its test, the matrices and their volume by what it calls. Assumes nothing.
--- what a matrix is read into
 use mathlib.Core.Path.{◌≡◌, ap, ap₂, ◌∙◌}
 use mathlib.Core.Bool.{Bool, cond}
 use mathlib.Core.List.{List}
@@ -16,6 +15,7 @@ use Rattle.volume.specs.Volume.{from_matrices_call}
 use Rattle.view_bytes.specs.CameraView.{volume_sent}
 use Rattle.view_bytes.proofs.camera_view.volume_sent.Goals as goal
 
+-- what a matrix is read into
 abbrev zeros : List Float
 zeros = replicate 16 (of_bits binary64 0)
 

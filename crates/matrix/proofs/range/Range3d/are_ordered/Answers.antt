@@ -1,9 +1,9 @@
 -- `Range3d::are_ordered` meets its contract by its tests. Assumes nothing.
--- the second is not asked where the first fails
 use mathlib.Core.Path.{◌≡◌, sym, ap, ◌∙◌}
 use mathlib.Core.Bool.{Bool, true, false, ◌&&◌}
 use Rattle.matrix.proofs.range.Range3d.are_ordered.Goals as goal
 
+-- the second is not asked where the first fails
 short : (a b p : Bool) → p ≡ a → p ≡ false → false ≡ (a && b)
 short a b p e h = sym (ap (λ (z : Bool). z && b) (sym e ∙ h))
 

@@ -1,6 +1,5 @@
 -- `number::root::PartialRoot::tried` meets its contract: the difference, which may wrap, has no top bit where what is left reaches the trial; and such a step
 -- keeps what holds after a bit. Assumes nothing.
--- ---- a sum below twice the modulus is what it wraps to, or that and the modulus
 use Rattle.std.proofs.Common.{◌≡◌, ℕ, zero, suc, ◌+◌, ◌-◌, ◌*◌, ◌/◌, ◌%◌, ◌^◌, ◌<◌, ◌≤◌, Bool, true, false, cond, not, T, ltb, leb, ◌⊎◌, sym, refl, ap, ◌∙◌, subst, inl, inr, ⊎_elim, mul-le-mul_right, one-mul, div-add-mod', zero-mul, arith, ltb→lt, leb→le, nltb→le, rules}
 use lib.Dec.{nleb→lt}
 use Rattle.number.specs.Search.{AfterBit}
@@ -8,6 +7,7 @@ use Rattle.number.specs.declared.root.PartialRoot.{PartialRoot}
 use Rattle.number.proofs.Search.{next}
 use Rattle.number.proofs.root.PartialRoot.tried.Goals as goal
 
+-- ---- a sum below twice the modulus is what it wraps to, or that and the modulus
 wrapped : (w x l : ℕ) → x < 2 * w → x % w ≡ l → (x ≡ l) ⊎ (x ≡ w + l)
 wrapped w x l h e = go (x / w) (ap (λ (i : ℕ). x / w * w + i) (sym e) ∙ div-add-mod' x w)
   where

@@ -1,5 +1,4 @@
 -- `BBox3d::is_degenerate` meets its contract: 1e-13 is written out. Assumes nothing.
--- the flag says whether there is one
 use Rattle.std.proofs.Common.{◌≡◌, not, refl, ap, ◌∙◌}
 use lib.Ieee.{Float}
 use Rattle.matrix.specs.Inverse.{inverse_above, has_inverse}
@@ -9,6 +8,7 @@ use Rattle.verdict.specs.BBox.{box_epsilon, flag_beside}
 use Rattle.verdict.proofs.Literals.{box_epsilon_bits}
 use Rattle.verdict.proofs.bbox.BBox3d.is_degenerate.Goals as goal
 
+-- the flag says whether there is one
 by_flag : (i : Inverted) → has_inverse i ≡ (flag_beside i).exists
 by_flag (Matrix m) = refl
 by_flag Singular = refl
