@@ -6,8 +6,8 @@ use Prim.Native.Nat.{ℕ, suc, ◌+◌, ◌-◌, ◌*◌, ◌/◌, ◌%◌, ◌�
 use native.Mathlib.Omega.{arith}
 use borrow.Author.Tests.{le-leb, lt-leb}
 use lib.Dec.{ltb, leb}
-use lib.ListN.{length, length-append, length-drop, take, drop, drop_of_length-le, take-append-drop}
-use lib.Seq.{length-take-le, take_at, take_all, take-length, drop-append-add, drop-drop}
+use lib.ListN.{length, length-append, length-drop, take, drop, take-append-drop}
+use lib.Seq.{length-take-le, take_at, drop-append-add, drop-drop}
 use Rattle.farm.specs.Text.{decimal, lines_from, inserted, Puts}
 use Rattle.farm.specs.Lines.{yes_or_no, line}
 use Rattle.farm.specs.Steps.{Put, line_room}

@@ -5,7 +5,7 @@ use Rattle.number.specs.Every.{every}
 use Rattle.number.specs.Bytes.{f64_at}
 use Rattle.number.specs.Slots.{slots_of}
 use Rattle.number.specs.Slice.{all_finite}
-use Rattle.number.specs.Answer.{Outcome, refused, outcome, unless, has, counted_of}
+use Rattle.number.specs.Answer.{Outcome, refused, outcome, unless, counted_of}
 use Rattle.verdict.specs.BBox.{box_of}
 use Rattle.verdict.specs.BBoxCalls.{flagged}
 use Rattle.verdict.specs.View.{volume_length, whole_part, is_count, planes_of}

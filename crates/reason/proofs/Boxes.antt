@@ -6,7 +6,6 @@ use Prim.Native.Nat.{ℕ, zero, suc, ◌+◌, ◌-◌, ◌*◌, ◌≤◌, ◌<�
 use native.Mathlib.Numerals.{add-one}
 use native.Mathlib.Omega.{arith}
 use lib.ListN.{length, length-append, take, drop}
-use lib.Seq.{drop-drop}
 use lib.Ieee.{Float}
 use Rattle.number.specs.Limits.{box_length, most_planes}
 use Rattle.number.specs.Answer.{Outcome, outcome}

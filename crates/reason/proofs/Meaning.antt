@@ -3,7 +3,7 @@
 use mathlib.Core.Path.{◌≡◌, refl, sym, ap, subst, ◌∙◌}
 use mathlib.Core.Bool.{Bool, true, false, cond, ◌&&◌, and_assoc}
 use mathlib.Core.List.{List, [], ◌∷◌, ◌++◌, map, map-map, append_assoc}
-use Prim.Native.Nat.{ℕ, suc, ◌+◌, ◌-◌, ◌/◌, ◌%◌, ◌≤◌}
+use Prim.Native.Nat.{ℕ, suc, ◌+◌, ◌-◌, ◌/◌, ◌%◌}
 use native.Mathlib.Omega.{arith}
 use borrow.Author.Tests.{le-leb, leb-true, ne_eqb}
 use lib.Dec.{eqb, ltb, leb}
@@ -20,8 +20,8 @@ use Rattle.farm.specs.FarmFile.{farm_file}
 use Rattle.farm.specs.Text.{decimal, lines_from, refused_word, refused_line}
 use Rattle.farm.specs.Lines.{yes_or_no, line, lines_of}
 use Rattle.farm.proofs.Answers.{verdicts_are}
-use Rattle.reason.specs.Lines.{Reason, verdict_word, empty_word, place_words, behind_words, exact_word, reason_line}
-use Rattle.reason.specs.Explained.{file_planes, reason_of, Reasons, none, more, ToldBy, Explained}
+use Rattle.reason.specs.Lines.{Reason, verdict_word, place_words, behind_words, exact_word, reason_line}
+use Rattle.reason.specs.Explained.{file_planes, reason_of, Reasons, none, more, ToldBy}
 use Rattle.reason.specs.Meaning.{words_left, first_words, OneText, SameRefusal, FirstTwoWords}
 
 -- ---- one text

@@ -1,11 +1,9 @@
 -- `directory::in_order` meets its contract: the sections left decide, from the end of the one before. Assumes nothing.
-use mathlib.Core.Path.{◌≡◌, ap, ◌∙◌}
-use Prim.Native.Nat.{ℕ, ◌+◌, ◌-◌, ◌≤◌}
-use native.Mathlib.Omega.{arith}
-use borrow.Author.Rules.{rules}
+use mathlib.Core.Path.{◌≡◌}
+use Prim.Native.Nat.{◌-◌, ◌≤◌}
 use lib.ListN.{length}
 use Rattle.farm.specs.Directory.{sections_from, directory_end, in_order}
-use Rattle.farm.proofs.SectionsLeft.{left, all_left, too_early, too_long, in_place, all_placed}
+use Rattle.farm.proofs.SectionsLeft.{left}
 use Rattle.farm.proofs.directory.in_order.Given as goal
 
 abbrev pub invariant-loop-i : goal.invariant-loop-i

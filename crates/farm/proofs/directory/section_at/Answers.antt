@@ -2,7 +2,6 @@
 use mathlib.Core.Path.{◌≡◌, ap, ◌∙◌}
 use Prim.Native.Nat.{ℕ}
 use native.Mathlib.Omega.{arith}
-use borrow.Author.Rules.{rules}
 use Rattle.number.specs.Bytes.{word_at}
 use Rattle.farm.specs.declared.directory.Section.{Section}
 use Rattle.farm.proofs.directory.section_at.Goals as goal

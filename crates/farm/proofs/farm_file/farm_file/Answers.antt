@@ -1,7 +1,6 @@
 -- `farm_file::farm_file` meets its contract by what it calls, with a room of the length asked for. Assumes nothing.
 use mathlib.Core.Path.{◌∙◌}
 use native.Mathlib.Omega.{arith}
-use borrow.Author.Rules.{rules}
 use lib.ListN.{replicate}
 use lib.Ieee.{binary64, of_bits}
 use Rattle.farm.specs.FarmFile.{numbers_room}

@@ -1,10 +1,9 @@
 -- `farm_file::judge` meets its contract by what it calls, with a room of the length asked for. Assumes nothing.
 use mathlib.Core.Path.{◌∙◌}
 use native.Mathlib.Omega.{arith}
-use borrow.Author.Rules.{rules}
 use lib.ListN.{replicate}
 use lib.Ieee.{binary64, of_bits}
-use Rattle.farm.specs.FarmFile.{numbers_room, Judged}
+use Rattle.farm.specs.FarmFile.{numbers_room}
 use Rattle.farm.proofs.Answers.{with_room}
 use Rattle.farm.proofs.farm_file.judge.Goals as goal
 

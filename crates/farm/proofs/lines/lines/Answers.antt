@@ -3,7 +3,6 @@ use mathlib.Core.Path.{◌≡◌, refl, sym, ap, ◌∙◌}
 use mathlib.Core.List.{List, map}
 use Prim.Native.Nat.{ℕ}
 use native.Mathlib.Omega.{arith}
-use borrow.Author.Rules.{rules}
 use lib.ListN.{take, replicate}
 use Rattle.number.specs.declared.answer.Refusal.{Refusal}
 use Rattle.number.specs.Answer.{number_of, counted_of}

@@ -4,7 +4,6 @@ use mathlib.Core.Bool.{Bool, true, false}
 use mathlib.Core.List.{◌++◌}
 use Prim.Native.Nat.{ℕ}
 use native.Mathlib.Omega.{arith}
-use borrow.Author.Rules.{rules}
 use Rattle.farm.specs.Text.{decimal}
 use Rattle.farm.specs.Lines.{yes_or_no, line}
 use Rattle.farm.proofs.Texts.{put_next, put_meant, has_room_lem, short_decimal}

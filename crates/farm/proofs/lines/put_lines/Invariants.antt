@@ -1,15 +1,11 @@
 -- `lines::put_lines` meets its contract: the lines of the boxes passed are in front. Assumes nothing.
-use mathlib.Core.Path.{◌≡◌, refl, sym, ap, ◌∙◌}
-use mathlib.Core.List.{List, [], ◌∷◌, ◌++◌, map, map-append}
-use Prim.Native.Nat.{ℕ, ◌+◌, ◌-◌, ◌*◌, ◌<◌, ◌≤◌}
-use native.Mathlib.Numerals.{add-one}
-use native.Mathlib.Omega.{arith}
-use lib.ListN.{length, length-map, take, get_or}
-use lib.Seq.{take-suc, length-take-le}
+use mathlib.Core.Path.{◌≡◌}
+use mathlib.Core.List.{List, map}
+use Prim.Native.Nat.{ℕ, ◌-◌, ◌≤◌}
+use lib.ListN.{length, take}
 use Rattle.farm.specs.Text.{lines_from}
 use Rattle.farm.specs.Lines.{line}
-use Rattle.farm.specs.Steps.{Put, is_yes, line_room}
-use Rattle.farm.proofs.Texts.{put_then, put_meant, put_length, lines_more, short_line, short_lines}
+use Rattle.farm.specs.Steps.{Put, is_yes}
 use Rattle.farm.proofs.lines.put_lines.Given as goal
 
 -- the lines of the first i slots

@@ -3,7 +3,6 @@ use mathlib.Core.Path.{◌≡◌, sym, ap, ◌∙◌}
 use mathlib.Core.List.{List, [], ◌++◌, append-nil}
 use Prim.Native.Nat.{ℕ, ◌-◌, ◌≤◌}
 use native.Mathlib.Omega.{arith}
-use borrow.Author.Rules.{rules}
 use lib.ListN.{length, length-append, length-drop, take, drop, drop_of_length-le, take-append-drop, replicate}
 use lib.Seq.{length-take-le, take_all, take_at, drop_at}
 use lib.Ieee.{Float}

@@ -1,11 +1,9 @@
 -- `sections::load_sections` meets its contract: the numbers taken and those of the sections left make all. Assumes nothing.
-use mathlib.Core.Path.{◌≡◌, refl, ◌∙◌}
+use mathlib.Core.Path.{◌≡◌}
 use Prim.Native.Nat.{◌-◌, ◌≤◌}
-use native.Mathlib.Omega.{arith}
-use borrow.Author.Rules.{rules}
 use lib.ListN.{length}
 use Rattle.farm.specs.Directory.{file_numbers}
-use Rattle.farm.proofs.Rooms.{all_numbers_lem, none_taken, fits, one_taken, all_taken}
+use Rattle.farm.proofs.Rooms.{all_numbers_lem}
 use Rattle.farm.proofs.sections.load_sections.Given as goal
 
 abbrev pub invariant-loop-i : goal.invariant-loop-i

@@ -1,8 +1,6 @@
 -- `text::put` meets its contract: by its tests of the room, and by what it calls. Assumes nothing.
 use mathlib.Core.Path.{refl}
-use Prim.Native.Nat.{ℕ, ◌+◌}
 use native.Mathlib.Omega.{arith}
-use borrow.Author.Rules.{rules}
 use Rattle.farm.proofs.Texts.{part_put, puts_room, no_room}
 use Rattle.farm.proofs.text.put.Goals as goal
 

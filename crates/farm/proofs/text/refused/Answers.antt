@@ -1,9 +1,8 @@
 -- `text::refused` meets its contract: the word, the number and the line's end are put in front of a text with room for them. Assumes nothing.
-use mathlib.Core.Path.{◌≡◌, refl, sym, ap, ◌∙◌}
+use mathlib.Core.Path.{◌≡◌, ap, ◌∙◌}
 use mathlib.Core.List.{List, [], ◌∷◌, ◌++◌}
 use Prim.Native.Nat.{ℕ, ◌≤◌}
 use native.Mathlib.Omega.{arith}
-use borrow.Author.Rules.{rules}
 use lib.ListN.{length, length-append, take, replicate}
 use Rattle.farm.specs.Text.{decimal, refused_word, refused_line, Puts}
 use Rattle.farm.specs.Steps.{text_room}

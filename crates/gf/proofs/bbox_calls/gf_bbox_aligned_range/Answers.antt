@@ -1,5 +1,4 @@
 -- `gf_bbox_aligned_range` meets its contract by its operation's. Assumes nothing.
-use borrow.Author.Rules.{rules}
 use Rattle.gf.proofs.Answers.{with_status}
 use Rattle.gf.proofs.bbox_calls.gf_bbox_aligned_range.Goals as goal
 

@@ -1,5 +1,4 @@
 -- `gf_camera_set_from_view_and_projection` meets its contract by its operation's. Assumes nothing.
-use borrow.Author.Rules.{rules}
 use Rattle.gf.proofs.Answers.{with_status}
 use Rattle.gf.proofs.camera_calls.gf_camera_set_from_view_and_projection.Goals as goal
 

@@ -1,6 +1,5 @@
 -- `gf_farm_file` meets its contract by its operation's. Assumes nothing.
 use mathlib.Core.Path.{ap, ◌∙◌}
-use borrow.Author.Rules.{rules}
 use Rattle.number.specs.Answer.{put}
 use Rattle.farm.specs.FarmFile.{Listing}
 use Rattle.gf.proofs.farm_calls.gf_farm_file.Goals as goal

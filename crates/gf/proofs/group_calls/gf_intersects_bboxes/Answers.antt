@@ -1,5 +1,4 @@
 -- `gf_intersects_bboxes` meets its contract by its operation's. Assumes nothing.
-use borrow.Author.Rules.{rules}
 use Rattle.gf.proofs.Answers.{with_status}
 use Rattle.gf.proofs.group_calls.gf_intersects_bboxes.Goals as goal
 

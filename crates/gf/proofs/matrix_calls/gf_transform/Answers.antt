@@ -1,5 +1,4 @@
 -- `gf_transform` meets its contract by its operation's. Assumes nothing.
-use borrow.Author.Rules.{rules}
 use Rattle.gf.proofs.Answers.{with_status}
 use Rattle.gf.proofs.matrix_calls.gf_transform.Goals as goal
 

@@ -1,6 +1,5 @@
 -- `gf_range_within` meets its contract by its operation's. Assumes nothing.
 use mathlib.Core.Path.{ap, ◌∙◌}
-use borrow.Author.Rules.{rules}
 use Rattle.number.specs.Answer.{put}
 use Rattle.nearest.specs.Calls.{Listing}
 use Rattle.gf.proofs.nearest_calls.gf_range_within.Goals as goal

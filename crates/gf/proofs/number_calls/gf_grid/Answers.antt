@@ -1,5 +1,4 @@
 -- `gf_grid` meets its contract by its operation's. Assumes nothing.
-use borrow.Author.Rules.{rules}
 use Rattle.gf.proofs.Answers.{with_status}
 use Rattle.gf.proofs.number_calls.gf_grid.Goals as goal
 

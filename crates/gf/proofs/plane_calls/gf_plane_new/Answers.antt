@@ -1,5 +1,4 @@
 -- `gf_plane_new` meets its contract by its operation's. Assumes nothing.
-use borrow.Author.Rules.{rules}
 use Rattle.gf.proofs.Answers.{with_status}
 use Rattle.gf.proofs.plane_calls.gf_plane_new.Goals as goal
 

@@ -1,5 +1,4 @@
 -- `gf_projection_matrix` meets its contract by its operation's. Assumes nothing.
-use borrow.Author.Rules.{rules}
 use Rattle.gf.proofs.Answers.{with_status}
 use Rattle.gf.proofs.projection_calls.gf_projection_matrix.Goals as goal
 

@@ -1,5 +1,4 @@
 -- `gf_range_corners` meets its contract by its operation's. Assumes nothing.
-use borrow.Author.Rules.{rules}
 use Rattle.gf.proofs.Answers.{with_status}
 use Rattle.gf.proofs.range_calls.gf_range_corners.Goals as goal
 

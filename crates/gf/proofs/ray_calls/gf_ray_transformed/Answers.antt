@@ -1,5 +1,4 @@
 -- `gf_ray_transformed` meets its contract by its operation's. Assumes nothing.
-use borrow.Author.Rules.{rules}
 use Rattle.gf.proofs.Answers.{with_status}
 use Rattle.gf.proofs.ray_calls.gf_ray_transformed.Goals as goal
 

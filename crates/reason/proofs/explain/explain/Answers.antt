@@ -4,7 +4,6 @@ use mathlib.Core.Bool.{Bool}
 use mathlib.Core.List.{List}
 use Prim.Native.Nat.{ℕ}
 use native.Mathlib.Omega.{arith}
-use borrow.Author.Rules.{rules}
 use lib.ListN.{replicate}
 use Rattle.number.specs.declared.answer.Counted.{Counted}
 use Rattle.number.specs.declared.answer.Counted.TheVariants.{Count, Refused}

@@ -3,7 +3,6 @@ use mathlib.Core.Path.{◌≡◌, sym}
 use mathlib.Core.Bool.{Bool, true, false}
 use mathlib.Core.List.{[]}
 use native.Mathlib.Omega.{arith}
-use borrow.Author.Rules.{rules}
 use Rattle.number.specs.declared.answer.Verdict.{Verdict}
 use Rattle.number.specs.declared.answer.Verdict.TheVariants.{Yes, No}
 use Rattle.number.specs.Answer.{verdict_of}

@@ -1,10 +1,9 @@
 -- `put_place` meets its contract by what it calls: a space, and the digits. Assumes nothing.
-use mathlib.Core.Path.{◌≡◌, sym, ap}
-use mathlib.Core.Bool.{Bool, true, false, cond}
+use mathlib.Core.Path.{sym, ap}
+use mathlib.Core.Bool.{Bool, cond}
 use mathlib.Core.List.{List, [], ◌∷◌, ◌++◌}
 use Prim.Native.Nat.{ℕ}
 use native.Mathlib.Omega.{arith}
-use borrow.Author.Rules.{rules}
 use Rattle.farm.specs.Text.{decimal}
 use Rattle.farm.proofs.Texts.{put_next, put_meant, has_room_lem, short_decimal}
 use Rattle.reason.proofs.Texts.{no_bytes}

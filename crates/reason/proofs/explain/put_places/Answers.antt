@@ -2,17 +2,13 @@
 use mathlib.Core.Path.{◌≡◌, refl, ap, ◌∙◌}
 use mathlib.Core.Bool.{cond}
 use mathlib.Core.List.{[], ◌∷◌, ◌++◌}
-use Prim.Native.Nat.{◌+◌, ◌-◌, ◌≤◌}
 use native.Mathlib.Omega.{arith}
-use borrow.Author.Rules.{rules}
-use lib.ListN.{length}
 use Rattle.number.specs.Limits.{most_planes}
 use Rattle.number.specs.Places.{places_below}
 use Rattle.verdict.specs.PlanesMeaning.{is_set}
 use Rattle.farm.specs.Text.{decimal}
 use Rattle.farm.proofs.Texts.{put_then, put_meant, put_length}
 use Rattle.reason.specs.Lines.{place_words}
-use Rattle.farm.specs.Steps.{Put}
 use Rattle.reason.proofs.Texts.{no_bytes, words, place_more, short_place, short_words}
 use Rattle.reason.proofs.explain.put_places.Goals as goal
 

@@ -2,7 +2,6 @@
 use mathlib.Core.Path.{sym, ap}
 use mathlib.Core.Bool.{true, false}
 use native.Mathlib.Omega.{arith}
-use borrow.Author.Rules.{rules}
 use Rattle.farm.proofs.Texts.{put_meant, has_room_lem}
 use Rattle.reason.specs.Lines.{verdict_word}
 use Rattle.reason.proofs.explain.put_verdict.Goals as goal

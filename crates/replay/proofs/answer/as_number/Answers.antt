@@ -1,5 +1,5 @@
 -- `replay::answer::as_number` meets its contract, case by case. Assumes nothing.
-use Rattle.std.proofs.Common.{sym, ap, ◌∙◌, rules}
+use Rattle.std.proofs.Common.{sym, ap, ◌∙◌}
 use Rattle.number.specs.declared.answer.Verdict.{Verdict}
 use Rattle.number.specs.Answer.{outcome, verdict_of}
 use Rattle.replay.specs.Answers.{as_number}

@@ -1,5 +1,5 @@
 -- `replay::answer::put_number` meets its contract: without room there is nothing to set. Assumes nothing.
-use Rattle.std.proofs.Common.{◌≡◌, ℕ, List, set, sym, refl, ap, ◌∙◌, arith, rules}
+use Rattle.std.proofs.Common.{◌≡◌, ℕ, List, set, sym, refl, ap, ◌∙◌, arith}
 use lib.Seq.{set_out}
 use lib.Ieee.{Float}
 use Rattle.number.specs.declared.answer.Refusal.{Refusal}

@@ -1,5 +1,5 @@
 -- `replay::answer::put_verdict` meets its contract, by those of what it calls. Assumes nothing.
-use Rattle.std.proofs.Common.{ap, ◌∙◌, rules}
+use Rattle.std.proofs.Common.{ap, ◌∙◌}
 use lib.Ieee.{Float}
 use Rattle.number.specs.Answer.{Outcome}
 use Rattle.replay.specs.Answers.{put_number}

@@ -1,5 +1,5 @@
 -- `replay::inputs::rest` meets its contract: a slice that is too short has nothing left. Assumes nothing.
-use Rattle.std.proofs.Common.{◌≡◌, ℕ, ◌-◌, List, length, take, drop, sym, arith, length-drop, drop_of_length-le, take_all, rules}
+use Rattle.std.proofs.Common.{◌≡◌, ℕ, ◌-◌, List, length, take, drop, sym, arith, length-drop, drop_of_length-le, take_all}
 use lib.Ieee.{Float}
 use Rattle.replay.proofs.inputs.rest.Goals as goal
 

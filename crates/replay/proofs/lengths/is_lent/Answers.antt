@@ -1,5 +1,5 @@
 -- `replay::lengths::is_lent` meets its contract: past the last place there is no length. Assumes nothing.
-use Rattle.std.proofs.Common.{ℕ, ltb, sym, ap, arith, rules}
+use Rattle.std.proofs.Common.{ℕ, ltb, sym, ap, arith}
 use lib.ListN.{get_or-eq_default}
 use Rattle.replay.proofs.lengths.is_lent.Goals as goal
 

@@ -1,5 +1,5 @@
 -- `replay::lengths::shorter` meets its contract: past the last place nothing is set. Assumes nothing.
-use Rattle.std.proofs.Common.{ℕ, set, sym, ap, arith, rules}
+use Rattle.std.proofs.Common.{ℕ, set, sym, ap, arith}
 use lib.Seq.{set_out}
 use Rattle.replay.proofs.lengths.shorter.Goals as goal
 

@@ -1,5 +1,4 @@
 -- `replay::same::same` meets its contract, by that of `to_bits`. Assumes nothing.
-use Rattle.std.proofs.Common.{rules}
 use Rattle.replay.specs.Same.{same}
 use Rattle.replay.proofs.same.same.Goals as goal
 

@@ -1,6 +1,5 @@
 -- `replay::same::slices_same` meets its contract: what is left decides. Assumes nothing.
-use Rattle.std.proofs.Common.{◌≡◌, ◌-◌, ◌≤◌, length, drop, not, sym, refl, ap, ◌∙◌, arith, rules}
-use Rattle.replay.specs.Same.{all_same}
+use Rattle.std.proofs.Common.{not, sym, refl, ap, ◌∙◌, arith, rules}
 use Rattle.replay.proofs.Comparison.{other_length, none_left, differs, agrees}
 use Rattle.replay.proofs.same.slices_same.Goals as goal
 

@@ -1,7 +1,6 @@
 -- `replay::same::slices_same` meets its contract: what is left decides. Assumes nothing.
-use Rattle.std.proofs.Common.{◌≡◌, ◌-◌, ◌≤◌, length, drop, sym, refl, ◌∙◌, arith, rules}
+use Rattle.std.proofs.Common.{◌≡◌, ◌-◌, ◌≤◌, length, drop}
 use Rattle.replay.specs.Same.{all_same}
-use Rattle.replay.proofs.Comparison.{other_length, none_left, differs, agrees}
 use Rattle.replay.proofs.same.slices_same.Given as goal
 
 abbrev pub invariant-loop-i : goal.invariant-loop-i

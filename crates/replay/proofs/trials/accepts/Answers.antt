@@ -1,5 +1,4 @@
 -- `replay::trials::accepts` meets its contract, by its test. Assumes nothing.
-use Rattle.std.proofs.Common.{rules}
 use Rattle.replay.proofs.Trying.{refused_so, answered_so}
 use Rattle.replay.proofs.trials.accepts.Goals as goal
 

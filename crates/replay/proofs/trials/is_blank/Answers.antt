@@ -1,5 +1,5 @@
 -- `replay::trials::is_blank` meets its contract, by those of what it calls. Assumes nothing.
-use Rattle.std.proofs.Common.{true, ap, ◌∙◌, rules}
+use Rattle.std.proofs.Common.{true, ap, ◌∙◌}
 use Rattle.replay.specs.Same.{all_same}
 use Rattle.replay.proofs.trials.is_blank.Goals as goal
 

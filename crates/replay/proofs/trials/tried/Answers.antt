@@ -1,5 +1,5 @@
 -- `replay::trials::tried` meets its contract, by its tests. Assumes nothing.
-use Rattle.std.proofs.Common.{◌∙◌, rules}
+use Rattle.std.proofs.Common.{◌∙◌}
 use Rattle.replay.proofs.Trying.{as_shorter, as_longer, as_given}
 use Rattle.replay.proofs.trials.tried.Goals as goal
 

@@ -1,5 +1,5 @@
 -- `replay::words::put_numbers` meets its contract: the numbers are loaded in front. Assumes nothing.
-use Rattle.std.proofs.Common.{◌≡◌, ℕ, ◌+◌, ◌-◌, min, List, ◌++◌, length, take, drop, sym, ap, ◌∙◌, arith, length-take-le, rules}
+use Rattle.std.proofs.Common.{◌≡◌, ℕ, min, List, ◌++◌, length, take, drop, sym, ap, ◌∙◌, arith, length-take-le}
 use lib.Ieee.{Float}
 use Rattle.number.specs.Bytes.{numbers_at, loaded}
 use Rattle.number.proofs.Words.{all_there}

@@ -1,7 +1,6 @@
 -- `put_number` meets its contract, byte by byte. Assumes nothing.
 use mathlib.Core.Path.{◌≡◌, ap}
 use Prim.Native.Nat.{ℕ}
-use borrow.Author.Rules.{rules}
 use lib.Ieee.{Float, binary64, to_bits}
 use Rattle.farm.proofs.Texts.{puts_meant}
 use Rattle.view_bytes.specs.CameraView.{bytes_of, number_bytes}
