@@ -1,7 +1,7 @@
 -- Whole-number points and matrices, and the quarter-turn placements of the farm grid. Definitions only.
 -- A whole point is its coordinates by axis, 0, 1 and 2, and a whole matrix its numbers by row and column, from 0 to 3. `sizes p` adds up the sizes of three numbers, and
 -- `movedℤ f` moves a point by a matrix (placed/specs/Placement).
-use Rattle.std.specs.Prelude.{◌≡◌, ℕ, zero, suc, ◌+◌, ◌/◌, ◌%◌, ◌^◌, ◌≤◌, ◌<◌, cond, eqb, ℤ, pos, nat_abs, ◌+ℤ◌, ◌*ℤ◌, ◌≤ℤ◌}
+use Rattle.std.specs.Prelude.{◌≡◌, ℕ, zero, suc, ◌/◌, ◌%◌, ◌^◌, ◌≤◌, ◌<◌, cond, eqb, ℤ, pos, nat_abs, ◌+ℤ◌, ◌*ℤ◌, ◌≤ℤ◌}
 use Rattle.number.specs.Limits.{grid_limit}
 use Rattle.whole.specs.Plane.{dotℤ}
 use Rattle.placed.specs.Placement.{columnℤ, movedℤ, sizes, smaller, larger}

@@ -10,7 +10,6 @@ use lib.ListN.{length}
 use lib.IntN.{ℤ, nat_abs}
 use lib.Ieee.{Float}
 use Rattle.number.specs.Limits.{range_length, grid_limit, normal_limit, distance_limit}
-use Rattle.number.specs.Slice.{at}
 use Rattle.number.specs.Tabulate.{tabulate}
 use Rattle.whole.specs.Plane.{WholePlane}
 use Rattle.whole.specs.SegmentCall.{number_at, plane_start, plane_at as whole_plane_at, planes_of as whole_planes_of, view_length}

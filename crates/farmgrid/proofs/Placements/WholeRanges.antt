@@ -9,7 +9,7 @@ use mathlib.Core.Bool.{Bool, true, false, not, ◌||◌, cond}
 use lib.Dec.{T, eqb, lit<, lit≤}
 use lib.IntN.{ℤ, pos, nat_abs, ◌+ℤ◌, ◌*ℤ◌}
 use lib.Signed.{◌≤ℤ◌, lt_z, lt_z_yes, lt_z_no, clash_ℤ}
-use lib.Ieee.{Float, lt}
+use lib.Ieee.{Float}
 use Rattle.number.specs.Arithmetic.{◌⊗◌, min_of, max_of}
 use Rattle.farmgrid.specs.Whole.{Whole}
 use Rattle.whole.proofs.Integer.{of_self as self, of_eq, of_min, of_max, min_ind, max_ind, min_shift, max_shift, ◌⊞◌}
