@@ -1,4 +1,4 @@
--- Which screen costs the watched rate, of paper 02: "For a segment answered no, find the lowest plane place whose removal alone would make it yes." Definitions only.
+-- Which screen costs the watched rate: "For a segment answered no, find the lowest plane place whose removal alone would make it yes." Definitions only.
 use Rattle.std.specs.Prelude.{ℕ, suc, Bool, List, ◌++◌, length, take, drop}
 use Rattle.number.specs.Answer.{Found}
 use Rattle.number.specs.Places.{places_below, first_of}

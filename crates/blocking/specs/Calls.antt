@@ -1,4 +1,4 @@
--- What the operation over lent slices answers, in the numbers of the papers. It writes nothing. Definitions only.
+-- What the operation over lent slices answers, by the numbers of the refusals. It writes nothing. Definitions only.
 use Rattle.std.specs.Prelude.{not, List, Float}
 use Rattle.number.specs.Answer.{Outcome, refused, outcome, Found, unless, and_then}
 use Rattle.matrix.specs.Vec.{vec3_of}

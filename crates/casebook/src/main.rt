@@ -1,4 +1,4 @@
-// The twelve marked verdicts of paper 01: each case's number and its verdict, as the operations answer.
+// The twelve marked verdicts: each case's number and its verdict, as the operations answer.
 #![tactic(auto)]
 
 ghost use Rattle.std.specs.Prelude.{◌≡◌};

@@ -1,4 +1,4 @@
--- The farm grid of paper 01 in whole numbers, and which floats stand for it. Definitions only.
+-- The farm grid in whole numbers, and which floats stand for it. Definitions only.
 -- ℤ are the whole numbers, ℕ those from 0 on; `pos n` is n as a member of ℤ, and `nat_abs z` the size of z. Three whole numbers are given by
 -- axis, 0, 1 and 2, as ℕ → ℤ. `Whole x z` says that the float x is the whole number z, "zeros of either sign alike", and `WholeVec` says it of
 -- three.

@@ -1,4 +1,4 @@
--- Groups of boxes, "blocks grouped by orchard" of paper 02: several box records in one slice, combined into one box. Definitions only.
+-- Groups of boxes, "blocks grouped by orchard": several box records in one slice, combined into one box. Definitions only.
 use Rattle.std.specs.Prelude.{◌*◌, Bool, ◌&&◌, List, [], ◌∷◌, ltb, leb, length, Float}
 use Rattle.number.specs.Limits.{box_length, most_boxes}
 use Rattle.number.specs.Every.{every}

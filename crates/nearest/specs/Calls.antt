@@ -1,4 +1,4 @@
--- What each operation over lent slices answers and leaves, in the numbers of the papers: "1 for a count outside 1 to 1,024 or any other wrong input length, then
+-- What each operation over lent slices answers and leaves, by the numbers of the refusals: "1 for a count outside 1 to 1,024 or any other wrong input length, then
 -- 2 for the listing". Definitions only.
 use Rattle.std.specs.Prelude.{ℕ, ◌&&◌, List, length, Float}
 use Rattle.number.specs.Answer.{Outcome, refused, outcome, Found, unless, has, answering}

@@ -1,4 +1,4 @@
--- The nearest block, of paper 02: "A grower reporting hail gives a point, and the desk wants the nearest block." Several ranges stand in one slice, and a
+-- The nearest block: "A grower reporting hail gives a point, and the desk wants the nearest block." Several ranges stand in one slice, and a
 -- place counts them from 0. Distances are squared, as `distance_squared` gives them: a NaN coordinate of the point is on neither side of a range and adds nothing.
 -- Definitions only.
 use Rattle.std.specs.Prelude.{ℕ, ◌+◌, ◌*◌, Bool, not, ◌&&◌, List, leb, length, Float}

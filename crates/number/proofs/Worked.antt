@@ -1,4 +1,4 @@
--- Worked numbers of paper 01, computed from the definitions: the grid's, and a root that later proofs lean on. Assumes nothing.
+-- Worked numbers, computed from the definitions: the grid's, and a root that later proofs lean on. Assumes nothing.
 use Rattle.std.proofs.Common.{◌≡◌, ℕ, List, [], ◌∷◌, pos, negsuc, refl}
 use lib.Ieee.{Float, binary64, of_bits, of_int, to_bits}
 use Rattle.number.specs.Answer.{refuse, write, leaving}

@@ -1,4 +1,4 @@
--- What a call answers, in the numbers of paper 01 ("Operations and what turns them back"). Definitions only.
+-- What a call answers, by the numbers of the refusals. Definitions only.
 use Rattle.std.specs.Prelude.{ℕ, Bool, true, false, List, length, ◌==◌, Float}
 use Rattle.number.specs.declared.answer.Refusal.{Refusal}
 use Rattle.number.specs.declared.answer.Refusal.TheVariants.{InputLength, OutputLength, Kind, Singular, Miss, NotAProjection, OffGrid, NotFinite, Directory, SectionLength, GroupSize, PlaneCount, MissingNumber, InView}

@@ -1,6 +1,6 @@
 -- binary64 arithmetic as the contracts write it: ⊕, ⊖, ⊗ and ⊘ are the four operations of IEEE 754, clause 5.4.1, each rounded once to nearest, ties to even.
 -- Definitions only.
--- A zero has its sign, and each definition says which. A NaN is one value, without sign or payload (the kit's lib.Ieee): its bits are free, and where a
+-- A zero has its sign, and each definition says which. A NaN is one value, without sign or payload (std's Float.Ieee): its bits are free, and where a
 -- definition gives a NaN, the result may be any NaN.
 use Rattle.std.specs.Prelude.{Bool, false, cond, not, ◌&&◌, ◌||◌, pos, is_nan, Float}
 use Rattle.std.specs.Float.{nan, inf, fin, binary64}

@@ -1,4 +1,4 @@
--- The survey grid (paper 01, "Grid"; paper 02 for halves): a point in metres becomes whole centimetres. Definitions and statements only.
+-- The survey grid: a point in metres becomes whole centimetres. Definitions and statements only.
 use Rattle.std.specs.Prelude.{◌≡◌, ℕ, ◌+◌, ◌-◌, ◌*◌, ◌/◌, ◌%◌, ◌<◌, ◌≤◌, Bool, true, false, cond, ◌⊎◌, List, [], ◌∷◌, map, ℤ, pos, neg_ℤ, from_bits, nat_le, nat_lt, Float}
 use Rattle.std.specs.Float.{nan, inf, fin, binary64}
 use Rattle.std.specs.Float.Ieee.{up, down, of_int}

@@ -1,7 +1,7 @@
--- Each limit of the papers and the length of each record, under one name. Definitions only.
+-- Each limit and the length of each record, under one name. Definitions only.
 use Rattle.std.specs.Prelude.{ℕ}
 
--- ---- how many numbers a record has (paper 01, "Records")
+-- ---- how many numbers a record has
 
 -- "Point 3 numbers; homogeneous point 4; range 6 (min, max); matrix 16; plane 4 (normal, distance); ray 6 (start, direction)"
 abbrev pub point_length : ℕ

@@ -57,7 +57,7 @@ pub enum Place {
 }
 
 impl Refusal {
-    // The number that the papers give the refusal.
+    // The number of the refusal.
     pub fn number(self) -> u32
         ensures { result ≡ number_of self }
     {

@@ -1,4 +1,4 @@
--- Worked numbers of paper 01 ("Operations and what turns them back") on kinds of projection, computed from the definitions. Assumes nothing.
+-- Worked numbers on kinds of projection, computed from the definitions. Assumes nothing.
 use mathlib.Core.Path.{◌≡◌, refl}
 use mathlib.Core.List.{List, ◌∷◌}
 use lib.Count.{count_trailing_zeros}

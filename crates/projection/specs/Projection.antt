@@ -147,7 +147,7 @@ recovered m =
 unfoldable pub recovered_from : List Float → Recovered
 recovered_from s = unless (has matrix_length s) NotAProjection (recovered (matrix_of s))
 
--- ---- what each answer comes to in paper 01's numbers
+-- ---- what each answer comes to, by the numbers of the refusals
 
 -- the matrix of a record that was read: "3 means a kind or flag outside its named values"
 abbrev pub built_numbers : Loaded → Outcome (List Float)

@@ -1,4 +1,4 @@
--- What the operations on projections over lent slices answer and leave, in the numbers of paper 01. Definitions only.
+-- What the operations on projections over lent slices answer and leave, by the numbers of the refusals. Definitions only.
 -- A slice is any list of numbers, NaN and infinities among them, of any length; nothing is assumed of it.
 -- "1 means an input slice's length differs from its record. 2 means an output slice's length differs." "Each is given only on its condition, earliest listed first."
 use Rattle.std.specs.Prelude.{List, Float}

@@ -1,4 +1,4 @@
--- Worked numbers of paper 01 ("Odd inputs", "Slips a rater would miss") on planes and rays, and finite ones that overflow, computed from the definitions. Assumes
+-- Worked numbers, odd inputs and slips a rater would miss, on planes and rays, and finite ones that overflow, computed from the definitions. Assumes
 -- nothing.
 use Rattle.std.proofs.Common.{◌≡◌, ◌*◌, ◌^◌, Bool, true, false, cond, ◌||◌, eqb, leb, pos, negsuc, refl, ap}
 use lib.Count.{count_trailing_zeros}

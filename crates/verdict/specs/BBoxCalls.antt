@@ -1,4 +1,4 @@
--- What each operation on boxes over lent slices answers and leaves, in the numbers of paper 01: "1, 2, then 3". Definitions only.
+-- What each operation on boxes over lent slices answers and leaves, by the numbers of the refusals: "1, 2, then 3". Definitions only.
 use Rattle.std.specs.Prelude.{Bool, ◌&&◌, List, Float}
 use Rattle.number.specs.Limits.{point_length, range_length, matrix_length, box_length, flag_place}
 use Rattle.number.specs.Answer.{Reply, refuse, write, Outcome, refused, outcome, unless, has, leaving}

@@ -1,4 +1,4 @@
--- What each verdict over lent slices answers, in the numbers of the papers. They write nothing. Definitions only.
+-- What each verdict over lent slices answers, by the numbers of the refusals. They write nothing. Definitions only.
 use Rattle.std.specs.Prelude.{ℕ, Bool, true, ◌&&◌, List, [], ◌∷◌, map, Float}
 use Rattle.number.specs.Limits.{point_length, matrix_length, box_length}
 use Rattle.number.specs.Every.{every}
@@ -37,8 +37,8 @@ planes_checked v room flags finite = checked (planes_held v) room flags (all_fin
 unfoldable pub verdict_after : {A : Type 0} → Bool → Outcome A → Bool → List (List Float) → (A → Bool) → Outcome Bool
 verdict_after lengths held flag lent verdict = unless lengths (refused 1) (checked held true flag (every all_finite lent) (λ x. outcome (verdict x)))
 
--- Of those by a volume: "1 for a volume below 49 numbers or any other input of the wrong length", the volume's later checks, "then document 01's later
--- checks", and then the verdict by its planes and rays.
+-- Of those by a volume: "1 for a volume below 49 numbers or any other input of the wrong length", the volume's later checks, then
+-- those of all that is lent, and then the verdict by its planes and rays.
 unfoldable pub verdict_by : List Float → List (ℕ × List Float) → Bool → (List Plane → List Ray → Bool) → Outcome Bool
 unfolding have_lengths verdict_after
 verdict_by v others flag verdict = verdict_after (have_lengths others) (planes_held v) flag (v ∷ input_records others) (λ n. verdict (planes_of v n) (rays_of v n))

@@ -96,7 +96,7 @@ carried NoInverse p = Singular
 unfoldable pub transformed : Mat4d → Plane → Transformed
 transformed m p = carried (inverse m) p
 
--- what its answer comes to in paper 01's numbers: "4 is singular"
+-- what its answer comes to, by the numbers of the refusals: "4 is singular"
 abbrev pub transformed_numbers : Transformed → Outcome (List Float)
 transformed_numbers (To p) = outcome (numbers p)
 transformed_numbers Singular = refused 4

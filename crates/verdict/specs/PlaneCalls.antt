@@ -1,4 +1,4 @@
--- What each operation on planes over lent slices answers and leaves, in the numbers of paper 01. Definitions only.
+-- What each operation on planes over lent slices answers and leaves, by the numbers of the refusals. Definitions only.
 -- "1 means an input slice's length differs from its record. 2 means an output slice's length differs." "Each is given only on its condition, earliest listed first."
 use Rattle.std.specs.Prelude.{Bool, ◌&&◌, List, Float}
 use Rattle.number.specs.Limits.{point_length, homogeneous_length, matrix_length, plane_length}

@@ -138,7 +138,7 @@ hit_of r t = hit_in (meeting_of r t)
 unfoldable pub triangle_hit : Ray → Vec3d → Vec3d → Vec3d → TriangleHit
 triangle_hit r p0 p1 p2 = hit_of r (triangle_of p0 p1 p2)
 
--- ---- what each answer comes to in paper 01's numbers
+-- ---- what each answer comes to, by the numbers of the refusals
 
 -- "front 1 or 0"
 abbrev pub front_flag : Bool → Float

@@ -1,4 +1,4 @@
--- A view: planes that have it on their positive sides, and rays along its edges. Its record, which the papers call the volume, holds planes within limits:
+-- A view: planes that have it on their positive sides, and rays along its edges. Its record, the volume, holds planes within limits:
 -- "a whole count first, the planes with the original six in front, then the four rays". What says where its numbers stand is here. Definitions only.
 use Rattle.std.specs.Prelude.{ℕ, ◌+◌, ◌*◌, Bool, ◌&&◌, List, length, take, drop, nat_le, Float}
 use Rattle.std.specs.Float.Ieee.{le, eq, to_unsigned}

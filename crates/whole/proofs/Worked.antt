@@ -1,4 +1,4 @@
--- Worked calls: the marked segments of paper 01 in whole numbers, and what turns a call back. Each computes. Assumes nothing.
+-- Worked calls: the marked segments in whole numbers, and what turns a call back. Each computes. Assumes nothing.
 use mathlib.Core.Path.{◌≡◌, refl}
 use mathlib.Core.Bool.{true, false}
 use mathlib.Core.List.{List, [], ◌∷◌, ◌++◌}

@@ -1,4 +1,4 @@
--- What the segment engine over signed 32-bit whole numbers answers, in the numbers of the papers. Definitions only.
+-- What the segment engine over signed 32-bit whole numbers answers, by the numbers of the refusals. Definitions only.
 -- "Its view is a count of planes, then four numbers for each plane, without rays. It accepts the farm-grid limits and every plane count then permitted."
 use Rattle.std.specs.Prelude.{ℕ, ◌+◌, ◌*◌, Bool, ◌&&◌, List, leb, length, get_or, ℤ, pos, negsuc, nat_abs}
 use Rattle.number.specs.Limits.{point_length, plane_length, grid_limit, normal_limit, distance_limit, fewest_planes, most_planes}
