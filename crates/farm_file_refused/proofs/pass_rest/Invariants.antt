@@ -1,5 +1,4 @@
 -- `pass_rest` is safe and ends: the turns left fall. Assumes nothing.
-use native.Mathlib.Omega.{arith}
 use Rattle.farm_file_refused.proofs.pass_rest.Given as goal
 
 abbrev pub invariant-loop-turns : goal.invariant-loop-turns

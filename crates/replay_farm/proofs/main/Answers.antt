@@ -1,5 +1,4 @@
 -- `main` is safe and ends: the place rises, and stays below 2 ^ 64. Assumes nothing.
-use Prim.Native.Nat.{◌-◌}
 use native.Mathlib.Omega.{arith}
 use Rattle.replay_farm.proofs.main.Goals as goal
 

@@ -1,6 +1,5 @@
 -- `main` is safe and ends: the place rises, and stays below 2 ^ 64. Assumes nothing.
 use Prim.Native.Nat.{◌-◌}
-use native.Mathlib.Omega.{arith}
 use Rattle.replay_farm.proofs.main.Given as goal
 
 abbrev pub invariant-loop-place : goal.invariant-loop-place

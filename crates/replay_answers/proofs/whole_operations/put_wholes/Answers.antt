@@ -1,5 +1,5 @@
 -- `replay_answers::whole_operations::put_wholes` is safe and ends: the place rises, and both slices keep their lengths. Assumes nothing.
-use Rattle.std.proofs.Common.{◌≡◌, ◌-◌, length, refl, arith, length-set, rules}
+use Rattle.std.proofs.Common.{refl, arith, length-set}
 use Rattle.replay_answers.proofs.whole_operations.put_wholes.Goals as goal
 
 pub loop-i-init : goal.loop-i-init
