@@ -66,6 +66,10 @@ scaled b p h g l =
     let hi = scale_lt p.significand p.scale n h.leading h.digits h.value 1091 (units_lt b 1039 l) in
     record { least = lo; most = hi; same = same_fraction p.significand p.scale n h.leading h.digits h.value (1126 - p.scale) (omega arith) }
 
+size_is : (x : Float) (p : Parts) (k : ℕ) → Normalised (mag x) p → 0x3fe0_0000_0000_0000 ≤ mag x → mag x < 0x4100_0000_0000_0000
+    → k ≡ closest p.significand (2 ^ (1126 - p.scale)) → k ≡ rounded x
+size_is x p k h g l e = e ∙ (scaled (mag x) p h g l).same
+
 pub returns-then-x : goal.returns-then-x
 returns-then-x c = let x = c.args.x in placed_nan x (is_nan_lem x c.if-x.true)
 
@@ -79,22 +83,25 @@ pub returns-then-magnitude-lt4602678819172646912 : goal.returns-then-magnitude-l
 returns-then-magnitude-lt4602678819172646912 c = let x = c.args.x in small x (search rules) (not_nan x c.if-x.false) c.if-magnitude-lt4602678819172646912.true
 
 pub nearest-size-requires : goal.nearest-size-requires
-nearest-size-requires c = let s = scaled (mag c.args.x) c.normalised-parts.result c.normalised-parts.ensures c.if-magnitude-lt4602678819172646912.false c.if-magnitude-ge4683743612465315840.false in (omega (arith, s.most), omega (arith, s.least), omega (arith, c.normalised-parts.ensures.digits))
+nearest-size-requires c =
+    let s = scaled (mag c.args.x) _ c.normalised-parts.ensures c.if-magnitude-lt4602678819172646912.false c.if-magnitude-ge4683743612465315840.false in
+    (omega (arith, s.most), omega (arith, s.least), omega (arith, c.normalised-parts.ensures.digits))
 
 pub returns-then-size-gt-GRID_LIMIT : goal.returns-then-size-gt-GRID_LIMIT
 returns-then-size-gt-GRID_LIMIT c =
     let x = c.args.x in
     off (sign x) _ c.if-size-gt-GRID_LIMIT.true
-    ∙ between x (search rules) (not_nan x c.if-x.false) (sign x) c.nearest-size.result c.if-magnitude-ge4683743612465315840.false refl (c.nearest-size.ensures ∙ (scaled (mag c.args.x) c.normalised-parts.result c.normalised-parts.ensures c.if-magnitude-lt4602678819172646912.false c.if-magnitude-ge4683743612465315840.false).same)
+    ∙ between x (search rules) (not_nan x c.if-x.false) (sign x) c.nearest-size.result c.if-magnitude-ge4683743612465315840.false refl (size_is x _ _ c.normalised-parts.ensures c.if-magnitude-lt4602678819172646912.false c.if-magnitude-ge4683743612465315840.false c.nearest-size.ensures)
 
 pub returns-then-bits-magnitude : goal.returns-then-bits-magnitude
 returns-then-bits-magnitude c =
     let x = c.args.x in
     let n = not_nan x c.if-x.false in
     let k = c.nearest-size.result in
-    ap On (to_z-of_z w32 _ (subst (SFits w32) (sym (minus_is k c.if-size-gt-GRID_LIMIT.false)) (minus_fits k c.if-size-gt-GRID_LIMIT.false)) ∙ minus_is k c.if-size-gt-GRID_LIMIT.false)
+    let m = minus_is k c.if-size-gt-GRID_LIMIT.false in
+    ap On (to_z-of_z w32 _ (subst (SFits w32) (sym m) (minus_fits k c.if-size-gt-GRID_LIMIT.false)) ∙ m)
     ∙ on true k c.if-size-gt-GRID_LIMIT.false
-    ∙ between x (search rules) n true k c.if-magnitude-ge4683743612465315840.false (sign_set x (search rules) n c.if-bits-magnitude.true) (c.nearest-size.ensures ∙ (scaled (mag c.args.x) c.normalised-parts.result c.normalised-parts.ensures c.if-magnitude-lt4602678819172646912.false c.if-magnitude-ge4683743612465315840.false).same)
+    ∙ between x (search rules) n true k c.if-magnitude-ge4683743612465315840.false (sign_set x (search rules) n c.if-bits-magnitude.true) (size_is x _ _ c.normalised-parts.ensures c.if-magnitude-lt4602678819172646912.false c.if-magnitude-ge4683743612465315840.false c.nearest-size.ensures)
 
 pub returns : goal.returns
 returns c =
@@ -103,4 +110,4 @@ returns c =
     let k = c.nearest-size.result in
     ap On (to_integer k c.if-size-gt-GRID_LIMIT.false)
     ∙ on false k c.if-size-gt-GRID_LIMIT.false
-    ∙ between x (search rules) n false k c.if-magnitude-ge4683743612465315840.false (sign_clear x (search rules) n c.if-bits-magnitude.false) (c.nearest-size.ensures ∙ (scaled (mag c.args.x) c.normalised-parts.result c.normalised-parts.ensures c.if-magnitude-lt4602678819172646912.false c.if-magnitude-ge4683743612465315840.false).same)
+    ∙ between x (search rules) n false k c.if-magnitude-ge4683743612465315840.false (sign_clear x (search rules) n c.if-bits-magnitude.false) (size_is x _ _ c.normalised-parts.ensures c.if-magnitude-lt4602678819172646912.false c.if-magnitude-ge4683743612465315840.false c.nearest-size.ensures)

@@ -3,7 +3,9 @@
 -- square of what follows it is beyond the number searched by the square of k. Something is left, except where k is 0, and a half stands for it. Assumes nothing.
 use Rattle.std.proofs.Common.{◌≡◌, ℕ, zero, suc, ◌+◌, ◌-◌, ◌*◌, ◌/◌, ◌%◌, ◌^◌, ◌<◌, ◌≤◌, true, ◌&&◌, ltb, sym, ap, ◌∙◌, subst, le_of_lt, mul-le-mul, mul-pos, arith, ltb-true}
 use lib.Ieee.Nearest.{closest}
+use Rattle.number.specs.declared.root.WholeRoot.{WholeRoot}
 use Rattle.number.specs.Root.{root_of, rest_of}
+use Rattle.number.specs.Search.{RootFound}
 use Rattle.number.proofs.Rounding.{nearest_shift}
 use Rattle.number.proofs.RootBits.{shifted, shifted_ge, shifted_lt, halved, small}
 use Rattle.number.proofs.RootRounding.{rest_none, rest_some}
@@ -69,6 +71,17 @@ tested m u e =
     let t = both_hold (ltb u (m + 2 ^ 26)) (ltb m (u + 2 ^ 26)) e in
     (ltb-true u (m + 2 ^ 26) t.0, ltb-true m (u + 2 ^ 26) t.1)
 
+-- what the search finds, with the half that stands for the rest
+module _ (m w : ℕ) (lo : 2 ^ 52 ≤ m) (hi : m < 2 ^ 53) (r : WholeRoot) (f : RootFound (m * 2 ^ (1 + w % 2) % 2 ^ 64 * 2 ^ 53) r) where
+  abbrev searched : ℕ
+  searched = m * 2 ^ (1 + w % 2) * 2 ^ 53
+
+  found : 2 * r.root + r.rest ≡ 2 * root_of searched + rest_of (root_of searched) searched
+  found = halved m w lo hi r.root r.rest (found_root _ r f, found_rest _ r f)
+
+  found_lt : 2 * r.root + r.rest < 2 ^ 55
+  found_lt = subst (λ (i : ℕ). i < 2 ^ 55) (sym found) (small m w lo hi)
+
 pub returns-then-square-significand : goal.returns-then-square-significand
 returns-then-square-significand c =
     let a = c.args in
@@ -78,12 +91,7 @@ returns-then-square-significand c =
 
 -- ---- by the search
 pub overflow_add-found : goal.overflow_add-found
-overflow_add-found c =
-    let a = c.args in
-    let p = c.requires in
-    let s = c.search-found in
-    let f = halved a.significand a.scale p.0 p.1 s.result.root s.result.rest (found_root _ _ s.ensures, found_rest _ _ s.ensures) in
-    omega (arith, subst (λ (i : ℕ). i < 2 ^ 55) (sym f) (small a.significand a.scale p.0 p.1))
+overflow_add-found c = omega (arith, found_lt _ _ c.requires.0 c.requires.1 _ c.search-found.ensures)
 
 pub search-found-requires : goal.search-found-requires
 search-found-requires c =
@@ -93,18 +101,7 @@ search-found-requires c =
     (shifted_ge a.significand a.scale p.0 p.1, shifted_lt a.significand a.scale p.0 p.1)
 
 pub nearest-requires : goal.nearest-requires
-nearest-requires c =
-    let a = c.args in
-    let p = c.requires in
-    let s = c.search-found in
-    let f = halved a.significand a.scale p.0 p.1 s.result.root s.result.rest (found_root _ _ s.ensures, found_rest _ _ s.ensures) in
-    (omega arith, omega arith, omega (arith, subst (λ (i : ℕ). i < 2 ^ 55) (sym f) (small a.significand a.scale p.0 p.1)))
+nearest-requires c = (omega arith, omega arith, omega (arith, found_lt _ _ c.requires.0 c.requires.1 _ c.search-found.ensures))
 
 pub returns : goal.returns
-returns c =
-    let a = c.args in
-    let p = c.requires in
-    let s = c.search-found in
-    c.nearest.ensures
-    ∙ ap (λ (i : ℕ). closest i 4)
-    (halved a.significand a.scale p.0 p.1 s.result.root s.result.rest (found_root _ _ s.ensures, found_rest _ _ s.ensures))
+returns c = c.nearest.ensures ∙ ap (λ (i : ℕ). closest i 4) (found _ _ c.requires.0 c.requires.1 _ c.search-found.ensures)
