@@ -3,7 +3,6 @@ pub mod Reached
 pub mod SpanByCuts
 pub mod Furthest
 pub mod Without
-pub mod PlaneRead
 pub mod BlockingByCuts
 pub mod Calls
 pub mod Meaning

@@ -1,7 +1,6 @@
 -- What the answers of this crate mean, for planes, ends and boxes of any numbers. Statements; proofs/Meaning and proofs/OnlyBit prove them. `T b` says that the test b holds, and `A ↔ B`
 -- that A holds exactly where B does.
-use Rattle.std.specs.Prelude.{◌≡◌, ◌↔◌, true, false, List, ℕ, ◌^◌, ◌<◌, T, length}
-use Rattle.number.specs.Answer.{nowhere, found}
+use Rattle.std.specs.Prelude.{◌≡◌, ◌↔◌, true, false, List, ℕ, ◌^◌, ◌<◌, T, length, None, Some}
 use Rattle.matrix.specs.declared.vec.Vec3d.{Vec3d}
 use Rattle.verdict.specs.declared.plane.Plane.{Plane}
 use Rattle.verdict.specs.declared.bbox.BBox3d.{BBox3d}
@@ -16,11 +15,11 @@ pub record IsBlocking (ps : List Plane) (a b : Vec3d) (i : ℕ) : Type 0 where
   pub lowest : (j : ℕ) → j < i → T (seen_without ps a b j) → ⊥
 
 abbrev pub BlockingMeans : Type 0
-BlockingMeans = (ps : List Plane) (a b : Vec3d) (i : ℕ) → (blocking_plane ps a b ≡ found i) ↔ IsBlocking ps a b i
+BlockingMeans = (ps : List Plane) (a b : Vec3d) (i : ℕ) → (blocking_plane ps a b ≡ Some i) ↔ IsBlocking ps a b i
 
 -- "no single removal suffices"
 abbrev pub NoneMeans : Type 0
-NoneMeans = (ps : List Plane) (a b : Vec3d) → (blocking_plane ps a b ≡ nowhere) ↔ ((i : ℕ) → i < length ps → T (seen_without ps a b i) → ⊥)
+NoneMeans = (ps : List Plane) (a b : Vec3d) → (blocking_plane ps a b ≡ None) ↔ ((i : ℕ) → i < length ps → T (seen_without ps a b i) → ⊥)
 
 -- The planes that a box is behind, by the same removal: a box that is answered no by two planes or more would be answered yes without plane i exactly where it is behind
 -- that plane alone.

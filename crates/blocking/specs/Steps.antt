@@ -1,11 +1,10 @@
 -- What the private functions of this crate promise one another. Definitions only; no contract of a public function speaks of them.
 -- A plane cuts off part of a segment, from an end that it does not have on its positive side. How far it cuts is told by the number that is 0 at the end a and 1 at the
 -- end b, and at b by this number with its sign turned, so that further is larger at both ends. Some of the segment is left where the two cuts do not pass each other.
-use Rattle.std.specs.Prelude.{ℕ, zero, suc, Bool, true, false, not, cond, eqb, Float}
+use Rattle.std.specs.Prelude.{ℕ, zero, suc, Bool, true, false, not, cond, eqb, Option, None, Some, Float}
 use Rattle.std.specs.Float.{inf}
 use Rattle.std.specs.Float.Ieee.{lt, neg}
 use Rattle.number.specs.Arithmetic.{upper_of}
-use Rattle.number.specs.Slots.{unused}
 use Rattle.matrix.specs.Constants.{positive_zero, one}
 use Rattle.matrix.specs.declared.vec.Vec3d.{Vec3d}
 use Rattle.verdict.specs.declared.plane.Plane.{Plane}
@@ -31,13 +30,13 @@ cut_at_end a b p = cut_from (on_positive_side p b) (on_positive_side p a) (neg o
 
 -- no plane has passed
 abbrev pub no_cut : Cut
-no_cut = record { furthest = inf true; place = unused; next = inf true }
+no_cut = record { furthest = inf true; place = None; next = inf true }
 
 -- with one more, that at i, which cuts as far as x
 unfoldable pub with_cut : Cut → Float → ℕ → Cut
 with_cut c x i =
     cond (lt c.furthest x)
-    (record { furthest = x; place = i; next = c.furthest })
+    (record { furthest = x; place = Some i; next = c.furthest })
     (record { furthest = c.furthest; place = c.place; next = upper_of c.next x })
 
 -- with the first n, of which that at i cuts as far as f i
@@ -46,9 +45,14 @@ unfolding with_cut
 cut_below f zero = no_cut
 cut_below f (suc n) = with_cut (cut_below f n) (f n) n
 
+-- a place is that at i
+abbrev pub is_at : Option ℕ → ℕ → Bool
+is_at None i = false
+is_at (Some p) i = eqb i p
+
 -- how far they cut without that at i
 abbrev pub furthest_without : Cut → ℕ → Float
-furthest_without c i = cond (eqb i c.place) c.next c.furthest
+furthest_without c i = cond (is_at c.place i) c.next c.furthest
 
 -- ---- at both ends
 

@@ -1,38 +1,34 @@
 // How far the planes of a view cut into a segment from its ends, all but one of them, for each that may be the one.
 ghost use Rattle.std.specs.Prelude.{◌≡◌};
-ghost use Rattle.number.specs.Answer.{place_of, outcome};
 ghost use Rattle.number.specs.Places.{places_below, first_of};
 ghost use Rattle.verdict.specs.View.{plane_at, planes_of};
-ghost use Rattle.verdict.specs.Steps.Passes.{HasPlanes};
 ghost use Rattle.blocking.specs.Blocking.{blocking_plane};
 ghost use Rattle.blocking.specs.Steps.{cut_from, no_cut, with_cut, furthest_without, cuts_with, cuts_below, leave_without};
 
 use matrix::vec::Vec3d;
-use number::answer::Place;
 use number::order::upper;
-use number::slots::UNUSED;
 use verdict::passes::crossing;
 use verdict::plane::Plane;
-use verdict::view::plane_start;
+use verdict::view::Planes;
 
 // How far a plane cuts from an end of a segment, by whether it has this end and the other one on its positive side.
 fn cut_from(here: bool, there: bool, end: f64, at: f64) -> f64
     ensures { result ≡ cut_from here there end at }
 {
     if here {
-        return -1.0 / 0.0;
+        return f64::NEG_INFINITY;
     }
     if there {
         return upper(end, at);
     }
-    1.0 / 0.0
+    f64::INFINITY
 }
 
 // How far the planes passed cut from one end, the place of one that cuts so far, and how far the others cut.
 #[derive(Clone, Copy)]
 struct Cut {
     furthest: f64,
-    place: u32,
+    place: Option<u32>,
     next: f64,
 }
 
@@ -42,9 +38,9 @@ impl Cut {
         ensures { result ≡ no_cut }
     {
         Cut {
-            furthest: -1.0 / 0.0,
-            place: UNUSED,
-            next: -1.0 / 0.0,
+            furthest: f64::NEG_INFINITY,
+            place: None,
+            next: f64::NEG_INFINITY,
         }
     }
 
@@ -55,7 +51,7 @@ impl Cut {
         if self.furthest < cut {
             return Cut {
                 furthest: cut,
-                place: i,
+                place: Some(i),
                 next: self.furthest,
             };
         }
@@ -70,7 +66,7 @@ impl Cut {
     fn without(self, i: u32) -> f64
         ensures { result ≡ furthest_without self i }
     {
-        if i == self.place {
+        if self.place == Some(i) {
             return self.next;
         }
         self.furthest
@@ -109,41 +105,30 @@ impl Cuts {
     }
 }
 
-// The cuts of so many planes of a record.
-fn cuts_of(view: &[f64], count: u32, a: Vec3d, b: Vec3d) -> Cuts
-    requires { HasPlanes view.now count }
-    ensures { result ≡ cuts_below (plane_at view.now) a b count }
+// The cuts of some planes.
+fn cuts_of(planes: Planes, a: Vec3d, b: Vec3d) -> Cuts
+    ensures { result ≡ cuts_below (plane_at planes.entry.numbers.now) a b planes.entry.count }
 {
     let mut cuts = Cuts {
         start: Cut::none(),
         end: Cut::none(),
     };
-    let mut i: u32 = 0;
-    while i < count {
-        cuts = cuts.with(Plane::load(&view[plane_start(i)..]), a, b, i);
-        i += 1;
+    for i in 0..planes.count {
+        cuts = cuts.with(planes.plane(i), a, b, i);
     }
     cuts
 }
 
 // The first place without whose plane so many planes leave some of the segment.
-fn first_blocking(cuts: Cuts, count: u32) -> Place
-    ensures { place_of result ≡ outcome (first_of (places_below count (leave_without cuts))) }
+fn first_blocking(cuts: Cuts, count: u32) -> Option<u32>
+    ensures { result ≡ first_of (places_below count (leave_without cuts)) }
 {
-    let mut place: u32 = 0;
-    while place < count {
-        if cuts.leave_without(place) {
-            return Place::At(place);
-        }
-        place += 1;
-    }
-    Place::Nowhere
+    (0..count).find(|place| cuts.leave_without(*place))
 }
 
-// The lowest place of so many planes without which some of a segment would be in the view.
-pub(crate) fn blocking_plane(view: &[f64], count: u32, a: Vec3d, b: Vec3d) -> Place
-    requires { HasPlanes view.now count }
-    ensures { place_of result ≡ outcome (blocking_plane (planes_of view.now count) a b) }
+// The lowest place of the planes without which some of a segment would be in the view.
+pub(crate) fn blocking_plane(planes: Planes, a: Vec3d, b: Vec3d) -> Option<u32>
+    ensures { result ≡ blocking_plane (planes_of planes.entry.numbers.now planes.entry.count) a b }
 {
-    first_blocking(cuts_of(view, count, a, b), count)
+    first_blocking(cuts_of(planes, a, b), planes.count)
 }

@@ -1,27 +1,22 @@
 -- Cameras, as Gf's documentation has them: a placement in the world, a kind of projection and a lens. Definitions only.
 -- Lengths in the camera, which are the focal length, the apertures and the offsets, count tenths of the world's unit; near and far count that unit itself.
-use Rattle.std.specs.Prelude.{◌&&◌, List, [], ◌∷◌, ◌++◌, Float}
+use Rattle.std.specs.Prelude.{◌&&◌, List, [], ◌∷◌, ◌++◌, Float, Err, None, Ok, Option, Result, Some}
 use Rattle.number.specs.Limits.{matrix_length, camera_length}
 use Rattle.number.specs.Answer.{Reply, Outcome, refused, outcome, number_of, unless, has, attempting}
 use Rattle.number.specs.Arithmetic.{◌⊕◌, ◌⊗◌, ◌⊘◌}
 use Rattle.number.specs.Format.{narrow_of, widen_of}
 use Rattle.number.specs.Slice.{all_finite}
+use Rattle.number.specs.declared.answer.Refusal.{Refusal}
 use Rattle.number.specs.declared.answer.Refusal.TheVariants.{Singular as SingularRefusal, NotAProjection as NoProjection, NotFinite}
 use Rattle.matrix.specs.Constants.{rounded, half, one}
 use Rattle.matrix.specs.Matrix.{matrix_of, entries}
 use Rattle.matrix.specs.Inverse.{inverse}
 use Rattle.matrix.specs.declared.matrix.Mat4d.{Mat4d}
-use Rattle.matrix.specs.declared.inverse.Inverted.{Inverted}
-use Rattle.matrix.specs.declared.inverse.Inverted.TheVariants.{Matrix, Singular}
 use Rattle.projection.specs.Projection.{kind_number, width, height, recovered}
 use Rattle.projection.specs.declared.projection.Projection.{Projection}
 use Rattle.projection.specs.declared.projection.Projection.TheVariants.{Perspective, Orthographic}
 use Rattle.projection.specs.declared.projection.ProjectionParams.{ProjectionParams}
-use Rattle.projection.specs.declared.projection.Recovered.{Recovered}
-use Rattle.projection.specs.declared.projection.Recovered.TheVariants.{Params, NotAProjection}
 use Rattle.camera.specs.declared.camera.Camera.{Camera}
-use Rattle.camera.specs.declared.camera.Set.{Set}
-use Rattle.camera.specs.declared.camera.Set.TheVariants.{To, Refused}
 
 -- ---- its numbers
 
@@ -69,24 +64,24 @@ camera_of transform p focal = filmed transform p focal (to_aperture p.projection
 -- ---- the camera of a view and a projection
 
 -- "accepts exactly where the Rust answers true and all 24 numbers are finite", and 8 "for all else not accepted"
-unfoldable pub finite_only : Camera → Set
-finite_only c = unless (all_finite (numbers c)) (Refused NotFinite) (To c)
+unfoldable pub finite_only : Camera → Result Camera Refusal
+finite_only c = unless (all_finite (numbers c)) (Err NotFinite) (Ok c)
 
 -- "4 where the Rust finds no inverse of the view", then "6 where it refuses the projection"
-abbrev pub opened : Inverted → Recovered → Float → Set
-opened Singular r focal = Refused SingularRefusal
-opened (Matrix transform) NotAProjection focal = Refused NoProjection
-opened (Matrix transform) (Params p) focal = finite_only (camera_of transform p focal)
+abbrev pub opened : Option Mat4d → Option ProjectionParams → Float → Result Camera Refusal
+opened None r focal = Err SingularRefusal
+opened (Some transform) None focal = Err NoProjection
+opened (Some transform) (Some p) focal = finite_only (camera_of transform p focal)
 
-unfoldable pub camera_from : Mat4d → Mat4d → Float → Set
+unfoldable pub camera_from : Mat4d → Mat4d → Float → Result Camera Refusal
 unfolding finite_only
 camera_from view projection focal = opened (inverse view) (recovered projection) focal
 
 -- ---- what the operation answers and leaves: "lengths 1 and 2, then 4 [..], 6 [..], and 8"
 
-abbrev pub set_numbers : Set → Outcome (List Float)
-set_numbers (To c) = outcome (numbers c)
-set_numbers (Refused r) = refused (number_of r)
+abbrev pub set_numbers : Result Camera Refusal → Outcome (List Float)
+set_numbers (Ok c) = outcome (numbers c)
+set_numbers (Err r) = refused (number_of r)
 
 unfoldable pub camera_call : List Float → List Float → Float → List Float → Reply Float
 camera_call view projection focal out =

@@ -6,13 +6,12 @@ ghost use Rattle.matrix.specs.Matrix.{matrix_of};
 ghost use Rattle.projection.specs.Projection.{recovered_from};
 ghost use Rattle.camera.specs.Camera.{numbers, to_aperture, camera_of, opened};
 
-use matrix::inverse::{Inverted, SINGULAR_DETERMINANT};
 use matrix::matrix::Mat4d;
 use number::answer::Refusal;
 use number::format::{narrow, widen};
 use number::limits::CAMERA_LENGTH;
 use number::slice;
-use projection::projection::{Projection, ProjectionParams, Recovered, kind_number};
+use projection::projection::{Projection, ProjectionParams};
 
 // The transform is the inverse of the view, and so places the camera. Near and far count the world's unit. The other five numbers are
 // lengths in the camera and count tenths of that unit.
@@ -29,13 +28,6 @@ pub struct Camera {
     pub far: f32,
 }
 
-// The camera of two matrices, or why there is none.
-#[derive(Clone, Copy)]
-pub enum Set {
-    To(Camera),
-    Refused(Refusal),
-}
-
 // The factor from a length of the window to one of the aperture: the focal length in perspective, since the window is 1 away from the
 // eye, and along parallels the change of the unit alone.
 fn to_aperture(projection: Projection, focal_length: f32) -> f64
@@ -46,21 +38,6 @@ fn to_aperture(projection: Projection, focal_length: f32) -> f64
             / Camera::APERTURE_UNIT,
         Projection::Orthographic => 1.0 / Camera::APERTURE_UNIT,
     }
-}
-
-// The inverse of the matrix in a slice. `Mat4d::inverse` is called and copies the matrix; its parts are put where they are used.
-fn inverse(view: &[f64]) -> Inverted
-    ensures { result ≡ inverse (matrix_of view.now) }
-{
-    let matrix = Mat4d::load(view);
-    let adjugate = Mat4d {
-        r0: matrix.cofactors0(),
-        r1: matrix.cofactors1(),
-        r2: matrix.cofactors2(),
-        r3: matrix.cofactors3(),
-    };
-    let det = matrix.determinant_by(adjugate);
-    adjugate.over(det, SINGULAR_DETERMINANT)
 }
 
 impl Camera {
@@ -80,8 +57,8 @@ impl Camera {
             transform,
             projection,
             focal_length,
-            horizontal_aperture: narrow((params.right - params.left) * scale),
-            vertical_aperture: narrow((params.top - params.bottom) * scale),
+            horizontal_aperture: narrow(params.width() * scale),
+            vertical_aperture: narrow(params.height() * scale),
             horizontal_aperture_offset: narrow(0.5 * (params.right + params.left) * scale),
             vertical_aperture_offset: narrow(0.5 * (params.top + params.bottom) * scale),
             near: narrow(params.near),
@@ -89,12 +66,11 @@ impl Camera {
         }
     }
 
-    // Its numbers, in the order of its record.
+    // Its numbers, in the order of its record. Each stands once: from the arrays of its parts they would be copied a second time.
     fn numbers(self) -> [f64; CAMERA_LENGTH]
         ensures { result ≡ numbers self }
     {
         let m = self.transform;
-        let projection = self.projection;
         [
             m.r0.x,
             m.r0.y,
@@ -112,7 +88,7 @@ impl Camera {
             m.r3.y,
             m.r3.z,
             m.r3.w,
-            kind_number(projection),
+            f64::from(self.projection),
             widen(self.focal_length),
             widen(self.horizontal_aperture),
             widen(self.vertical_aperture),
@@ -132,29 +108,33 @@ impl Camera {
     }
 
     // The camera of what the inverse of a view and the recovery of a projection came to.
-    fn opened(inverted: Inverted, recovered: Recovered, focal_length: f32) -> Set
+    fn opened(
+        inverted: Option<Mat4d>,
+        recovered: Option<ProjectionParams>,
+        focal_length: f32,
+    ) -> Result<Camera, Refusal>
         ensures { result ≡ opened inverted recovered focal_length }
     {
-        let Inverted::Matrix(transform) = inverted else {
-            return Set::Refused(Refusal::Singular);
-        };
-        let Recovered::Params(params) = recovered else {
-            return Set::Refused(Refusal::NotAProjection);
-        };
+        let transform = inverted.ok_or(Refusal::Singular)?;
+        let params = recovered.ok_or(Refusal::NotAProjection)?;
         let camera = Camera::seeing(transform, params, focal_length);
         if !camera.is_finite() {
-            return Set::Refused(Refusal::NotFinite);
+            return Err(Refusal::NotFinite);
         }
-        Set::To(camera)
+        Ok(camera)
     }
 
     // The camera of a view and a projection, matrices that are read where they are lent. A lens of twice the focal length with apertures
     // twice as large has the same projection, so that the focal length has to be told besides.
-    pub fn set_from_view_and_projection(view: &[f64], projection: &[f64], focal_length: f32) -> Set
+    pub fn set_from_view_and_projection(
+        view: &[f64],
+        projection: &[f64],
+        focal_length: f32,
+    ) -> Result<Camera, Refusal>
         ensures { result ≡ opened (inverse (matrix_of view.now)) (recovered_from projection.now) focal_length }
     {
         let recovered = ProjectionParams::from_record(projection);
-        Camera::opened(inverse(view), recovered, focal_length)
+        Camera::opened(Mat4d::load(view).inverse(), recovered, focal_length)
     }
 
     // Its numbers, into a slice of 24.

@@ -1,28 +1,14 @@
 // Reads a view and a projection matrix from standard input to its end, and writes the volume that they make: numbers in the form that a
 // farm file has them in; or prints that they are refused.
+// This source stands in further crates too, each for another file at standard input: a program is run on one.
 #![tactic(auto)]
 
-use farm::text::front;
-use view_bytes::camera_view::camera_view;
-
-// Reads on, and answers whether there was more.
-fn passes_more() -> bool {
-    let mut bytes = io::large_buffer();
-    0 < io::read_full(0, &mut bytes)
-}
-
-fn pass_rest() {
-    let mut turns: u64 = u64::MAX;
-    while 0 < turns && passes_more() {
-        turns -= 1;
-    }
-}
+use input::read_whole;
+use view_bytes::camera_view::{MATRICES_SIZE, camera_view};
 
 fn main() {
     // one byte more than two matrices have: what is longer need not be kept to be told
-    let mut file = [0u8; 257];
-    let size = io::read_full(0, &mut file);
-    pass_rest();
-    let view = camera_view(&file[..size]);
-    io::write_all(1, front(&view.bytes, view.size));
+    let mut room = [0u8; MATRICES_SIZE + 1];
+    let size = read_whole(&mut room);
+    io::write_all(1, camera_view(&room[..size]).as_slice());
 }

@@ -5,21 +5,23 @@ use mathlib.Core.Bool.{Bool, true, false, ◌&&◌}
 use mathlib.Core.List.{List, [], ◌∷◌}
 use Prim.Native.Nat.{ℕ, ◌+◌, ◌≤◌, ◌<◌}
 use native.Mathlib.Omega.{arith}
-use borrow.Author.Tests.{eqb-true, leb-true, eq-eqb, ne_eqb, le-leb, lt-leb}
+use borrow.Author.Tests.{eqb-true, leb-true, eq-eqb, ne_eqb, le-leb}
 use lib.Dec.{T, eqb, leb}
-use lib.ListN.{length, set}
+use lib.ListN.{length}
 use lib.IntN.{ℤ}
 use Rattle.number.specs.Limits.{range_length, fewest_planes, most_planes}
-use Rattle.number.specs.Answer.{Outcome, refused, outcome, unless, has}
+use Rattle.number.specs.Answer.{Outcome, refused, outcome, and_then, unless, has}
 use Rattle.number.specs.Every.{every}
 use Rattle.number.proofs.Tests.{both_hold}
 use Rattle.number.proofs.Ways.{both, stops, passes}
 use Rattle.whole.specs.SegmentCall.{number_at, planes_of, view_length, count_of, permitted, plane_within}
+use Rattle.whole.specs.Steps.{planes_held}
+use Rattle.whole.proofs.Held.{after_lengths, not_held, is_held}
 use Rattle.exact.specs.declared.plane.Point.{Point}
 use Rattle.exact.specs.ExactPoint.{Satisfies}
 use Rattle.exact.specs.BBoxCall.{low_corner, high_corner, witness_length, box_within, count_checked, Decided, Answers, WholeBoxCall}
-use Rattle.exact.specs.Steps.{faces, constraint_at, Shared, Satisfying}
-use Rattle.exact.proofs.Constraints.{each_of, held_of, seen_of}
+use Rattle.exact.specs.Steps.{faces, constraint_at, Constraints, Shared, Satisfying}
+use Rattle.exact.proofs.Constraints.{constraints, each_of, held_of, seen_of}
 use Rattle.exact.proofs.Taken.{point_of, satisfied}
 
 -- ---- the checks, of a view and a box, and a witness that has room for so many numbers
@@ -46,41 +48,59 @@ module _ (view box : List ℤ) (room : ℕ) where
   abbrev Gives : Outcome ℕ → Type 0
   Gives x = x ≡ count_checked view box room
 
-  pub other_box : (length box ≡ range_length → ⊥) → Gives (refused 1)
-  other_box h = stops lengths (refused 1) _ (ap (λ (t : Bool). t && leb (view_length fewest_planes) (length view)) (ne_eqb _ _ h)) ∙ checked_is
+  -- the tests behind those of the box's length and the view's own, of a view that holds n planes
+  abbrev on_planes : ℕ → Outcome ℕ
+  on_planes n = unless (eqb room witness_length) (refused 2) (unless (grid n) (refused 7) (outcome n))
+
+  held_is : unless (has range_length box) (refused 1) (and_then (planes_held view) on_planes) ≡ count_checked view box room
+  unfolding count_checked
+  held_is = after_lengths view (has range_length box) on_planes
+
+  pub box_of_another : (length box ≡ range_length → ⊥) → Gives (refused 1)
+  box_of_another h = stops _ (refused 1) _ (ne_eqb _ _ h) ∙ held_is
 
   module _ (h : length box ≡ range_length) where
-    pub too_short : length view < view_length fewest_planes → Gives (refused 1)
-    too_short l = stops lengths (refused 1) _ (both (eq-eqb _ _ h) (lt-leb _ _ l)) ∙ checked_is
+    of_length : (x : Outcome ℕ) → x ≡ and_then (planes_held view) on_planes → Gives x
+    of_length x e = passes _ (refused 1) _ x (eq-eqb _ _ h) e ∙ held_is
+
+    pub no_view : (k : ℕ) → refused k ≡ planes_held view → Gives (refused k)
+    no_view k e = of_length (refused k) (not_held (planes_held view) on_planes k e)
+
+    -- the view holds n planes
+    module _ (n : ℕ) (k : outcome n ≡ planes_held view) where
+      held : (x : Outcome ℕ) → x ≡ on_planes n → Gives x
+      held x e = of_length x (is_held (planes_held view) on_planes n k x e)
+
+      pub no_room : (room ≡ witness_length → ⊥) → Gives (refused 2)
+      no_room r = held (refused 2) (stops _ (refused 2) _ (ne_eqb _ _ r))
+
+      -- what is read is the view, and the box
+      module _ (r : room ≡ witness_length) (v b : List ℤ) (e : v ≡ view) (f : b ≡ box) where
+        read : every plane_within (planes_of v n) && box_within b ≡ grid n
+        read = λ t. every plane_within (planes_of (e t) n) && box_within (f t)
+
+        pub not_on_grid : every plane_within (planes_of v n) && box_within b ≡ false → Gives (refused 7)
+        not_on_grid g = held (refused 7) (passes _ (refused 2) _ (refused 7) (eq-eqb _ _ r) (stops _ (refused 7) _ (sym read ∙ g)))
+
+        pub all_on_grid : every plane_within (planes_of v n) && box_within b ≡ true → Gives (outcome n)
+        all_on_grid g = held (outcome n) (passes _ (refused 2) _ (outcome n) (eq-eqb _ _ r) (passes _ (refused 7) _ (outcome n) (sym read ∙ g) refl))
 
     -- the lengths hold
     module _ (l : view_length fewest_planes ≤ length view) (n : ℕ) (e : n ≡ count_of (number_at view 0)) where
       counted : (x : Outcome ℕ) → x ≡ after n → Gives x
       counted x p = passes lengths (refused 1) _ x (both (eq-eqb _ _ h) (le-leb _ _ l)) (p ∙ ap after e) ∙ checked_is
 
-      pub too_few : n < fewest_planes → Gives (refused 12)
-      too_few m = counted (refused 12) (stops (permitted n) (refused 12) _ (ap (λ (t : Bool). t && leb n most_planes) (lt-leb _ _ m)))
-
       module _ (m : fewest_planes ≤ n) where
-        pub too_many : most_planes < n → Gives (refused 12)
-        too_many o = counted (refused 12) (stops (permitted n) (refused 12) _ (both (le-leb _ _ m) (lt-leb _ _ o)))
-
         -- the count holds
         module _ (o : n ≤ most_planes) where
           measured : (x : Outcome ℕ)
               → x ≡ unless (has (view_length n) view) (refused 1) (unless (eqb room witness_length) (refused 2) (unless (grid n) (refused 7) (outcome n))) → Gives x
           measured x p = counted x (passes (permitted n) (refused 12) _ x (both (le-leb _ _ m) (le-leb _ _ o)) p)
 
-          pub other_length : (length view ≡ view_length n → ⊥) → Gives (refused 1)
-          other_length k = measured (refused 1) (stops (has (view_length n) view) (refused 1) _ (ne_eqb _ _ k))
-
           -- the view's length holds
           module _ (k : length view ≡ view_length n) where
             roomy : (x : Outcome ℕ) → x ≡ unless (eqb room witness_length) (refused 2) (unless (grid n) (refused 7) (outcome n)) → Gives x
             roomy x p = measured x (passes (has (view_length n) view) (refused 1) _ x (eq-eqb _ _ k) p)
-
-            pub no_room : (room ≡ witness_length → ⊥) → Gives (refused 2)
-            no_room r = roomy (refused 2) (stops (eqb room witness_length) (refused 2) _ (ne_eqb _ _ r))
 
             -- the witness's room holds
             module _ (r : room ≡ witness_length) where
@@ -159,11 +179,20 @@ module _ (view box before : List ℤ) (n : ℕ) where
         },
       )
 
--- ---- four numbers put into a slice of four
-pub four_put : (w : List ℤ) (x y z k : ℤ) → length w ≡ 4 → set (set (set (set w 0 x) 1 y) 2 z) 3 k ≡ x ∷ y ∷ z ∷ k ∷ []
-four_put [] x y z k e = absurd (omega (arith, e))
-four_put (a ∷ []) x y z k e = absurd (omega (arith, e))
-four_put (a ∷ b ∷ []) x y z k e = absurd (omega (arith, e))
-four_put (a ∷ b ∷ c ∷ []) x y z k e = absurd (omega (arith, e))
-four_put (a ∷ b ∷ c ∷ d ∷ []) x y z k e = refl
-four_put (a ∷ b ∷ c ∷ d ∷ f ∷ w) x y z k e = absurd (omega (arith, e))
+-- of the view and the box as they are read
+pub decided : (view box before left : List ℤ) (n : ℕ) (answer : Outcome Bool) → outcome n ≡ count_checked view box (length before) → (v b : List ℤ) → v ≡ view → b ≡ box
+    → Decided (planes_of v n) (low_corner b) (high_corner b) before answer left → WholeBoxCall view box before answer left
+decided view box before left n answer c v b e f d =
+    answers view box before answer left (outcome n) c
+    (subst (λ (y : List ℤ). Decided (planes_of view n) (low_corner y) (high_corner y) before answer left) f
+    (subst (λ (x : List ℤ). Decided (planes_of x n) (low_corner b) (high_corner b) before answer left) e d))
+
+-- and so are the constraints that they hold
+pub scene : (view box : List ℤ) (room n : ℕ) → outcome n ≡ count_checked view box room → (v b : List ℤ) → v ≡ view → b ≡ box
+    → Constraints v b (faces + n) × (box_within b ≡ true)
+scene view box room n c v b e f =
+    let p = passed view box room n c in
+    let h = constraints view box n p.most p.corners (omega (arith, p.numbers)) p.planes p.bounds in (
+      subst (λ (x : List ℤ). Constraints x b (faces + n)) (sym e) (subst (λ (y : List ℤ). Constraints view y (faces + n)) (sym f) h),
+      subst (λ (y : List ℤ). box_within y ≡ true) (sym f) p.bounds,
+    )

@@ -79,14 +79,3 @@ module _ (view box : List ℤ) (n : ℕ) where
         let e : faces + j - faces ≡ j = omega arith in
         subst (λ (k : ℕ). Satisfies (plane_at view k) X) e
         (subst (λ (P : WholePlane). Satisfies P X) (plane_there view box (faces + j) (omega arith)) (h (faces + j) (omega arith))))
-
--- the first of them alone
-pub fewer_constraints : {view box : List ℤ} {n : ℕ} (m : ℕ) → m ≤ n → Constraints view box n → Constraints view box m
-fewer_constraints {view} {box} {n} m l c =
-    let f = c.few in
-    let p = c.planes in record {
-      few = omega arith;
-      corners = c.corners;
-      planes = omega arith;
-      within = λ i k. c.within i (omega arith);
-    }

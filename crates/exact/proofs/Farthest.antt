@@ -10,17 +10,19 @@ use borrow.Author.Tests.{ltb-true}
 use lib.Dec.{ltb, lit<, lit≤}
 use lib.IntN.{ℤ, pos, negsuc, nat_abs, ◌+ℤ◌, ◌-ℤ◌, ◌*ℤ◌}
 use lib.Signed.{lt_z, ◌≤ℤ◌}
-use Rattle.number.specs.Limits.{grid_limit, normal_limit, distance_limit}
+use Rattle.number.specs.Limits.{grid_limit, normal_limit}
 use Rattle.whole.specs.Plane.{WholePlane}
 use Rattle.whole.specs.SegmentCall.{number_at}
+use mir.Syntax.{w32}
+use mir.Val.{to_z, of_z}
+use Rattle.whole.proofs.Registers.{read, itself}
 use Rattle.whole.proofs.Integer.{hi, lo, of_self as self, of_pos, of_le, ◌⊞◌, ◌⊟◌, ◌⊠◌}
-use Rattle.exact.specs.declared.vec.Vec3i.{Vec3i}
 use Rattle.exact.specs.declared.plane.Point.{Point}
 use Rattle.exact.specs.ExactPoint.{ExactPoint, Satisfies, InBox}
 use Rattle.exact.specs.BBoxCall.{low_corner, high_corner, box_within}
-use Rattle.exact.specs.Steps.{vec_of, gap_at, Sized, largest_coordinate, SmallPoint, farthest, whole_point, Seen, Satisfying}
+use Rattle.exact.specs.Steps.{Vec3i, vec_of, gap_at, Sized, largest_coordinate, SmallPoint, farthest, whole_point, Seen, Satisfying}
 use Rattle.exact.proofs.Machine.{R, again, known}
-use Rattle.exact.proofs.Faces.{grid_box, numbers_small}
+use Rattle.exact.proofs.Faces.{numbers_small}
 
 -- ---- along one axis: a coordinate x over k, from l to h
 along : (n l h x : ℤ) (k : ℕ) → (pos k *ℤ l) ≤ℤ x → x ≤ℤ (pos k *ℤ h) → (n *ℤ x) ≤ℤ (pos k *ℤ (n *ℤ cond (lt_z n (pos 0)) l h))
@@ -62,45 +64,38 @@ reaches_it box P X b s =
     (at 0 (lit< tt)) (at 1 (lit< tt)) (at 2 (lit< tt)) s.side
 
 -- ---- as the code picks it
+
+abbrev R32 : ℤ → ℤ
+R32 z = to_z w32 (of_z w32 z)
+
 either : (K : ℤ → Type 0) (b : Bool) (l h : ℤ) → K l → K h → K (cond b l h)
 either K true l h p q = p
 either K false l h p q = q
 
-picked : (n l h l' h' r : ℤ) → nat_abs n ≤ normal_limit → nat_abs l ≤ grid_limit → nat_abs h ≤ grid_limit → l' ≡ l → h' ≡ h
-    → r ≡ cond (lt_z (R n) (pos 0)) (R l') (R h') → R r ≡ cond (lt_z n (pos 0)) l h
-picked n l h l' h' r N L H e f g = (again (lit≤ tt) (record {
-  is = g ∙ (λ t. cond (lt_z ((known (lit≤ tt) n N).is t) (pos 0)) (get l' l e L t) (get h' h f H t));
+picked : (n l h r : ℤ) → nat_abs n ≤ normal_limit → nat_abs l ≤ grid_limit → nat_abs h ≤ grid_limit → r ≡ cond (lt_z (R n) (pos 0)) (R32 l) (R32 h) → R r ≡ cond (lt_z n (pos 0)) l h
+picked n l h r N L H g = (again (lit≤ tt) (record {
+  is = g ∙ (λ t. cond (lt_z ((known (lit≤ tt) n N).is t) (pos 0)) (get l L t) (get h H t));
   size = either (λ z. nat_abs z ≤ grid_limit) (lt_z n (pos 0)) l h L H;
 })).is
   where
-    get : (w z : ℤ) → w ≡ z → nat_abs z ≤ grid_limit → R w ≡ z
-    get w z e s = (again (lit≤ tt) (record { is = e; size = s })).is
+    get : (z : ℤ) → nat_abs z ≤ grid_limit → R32 z ≡ z
+    get z s = (read w32 (itself z s) (lit< tt)).is
 
 module _ (box : List ℤ) (e : box_within box ≡ true) where
   small : (i : ℕ) → i < 6 → nat_abs (number_at box i) ≤ grid_limit
   small = numbers_small box e
 
-  pub near : (i : ℕ) → i < 6 → nat_abs (number_at box i) ≤ distance_limit
-  near i l = le_trans (small i l) (lit≤ {m = grid_limit} {n = distance_limit} tt)
-
-  pub corner_read : (x y z : ℤ) → x ≡ number_at box 0 → y ≡ number_at box 1 → z ≡ number_at box 2
-      → ◌≡◌ {A = Point} (record { numbers = record { x = R x; y = R y; z = R z }; k = pos 1 }) (whole_point (low_corner box))
-  corner_read x y z f g h = λ t. record { numbers = record { x = get x 0 f (lit< tt) t; y = get y 1 g (lit< tt) t; z = get z 2 h (lit< tt) t }; k = pos 1 }
-    where
-      get : (w : ℤ) (i : ℕ) → w ≡ number_at box i → i < 6 → R w ≡ number_at box i
-      get w i f l = (again (lit≤ tt) (record { is = f; size = small i l })).is
-
   module _ (n : Vec3i) (N : Sized normal_limit n) where
-    pub farthest_read : (a b c d f g x y z : ℤ)
-        → a ≡ number_at box 0 → b ≡ number_at box 3 → x ≡ cond (lt_z (R n.x) (pos 0)) (R a) (R b)
-        → c ≡ number_at box 1 → d ≡ number_at box 4 → y ≡ cond (lt_z (R n.y) (pos 0)) (R c) (R d)
-        → f ≡ number_at box 2 → g ≡ number_at box 5 → z ≡ cond (lt_z (R n.z) (pos 0)) (R f) (R g)
+    pub farthest_read : (x y z : ℤ)
+        → x ≡ cond (lt_z (R n.x) (pos 0)) (R32 (number_at box 0)) (R32 (number_at box 3))
+        → y ≡ cond (lt_z (R n.y) (pos 0)) (R32 (number_at box 1)) (R32 (number_at box 4))
+        → z ≡ cond (lt_z (R n.z) (pos 0)) (R32 (number_at box 2)) (R32 (number_at box 5))
         → ◌≡◌ {A = Point} (record { numbers = record { x = R x; y = R y; z = R z }; k = pos 1 }) (whole_point (farthest box (vec_of n)))
-    farthest_read a b c d f g x y z A B X C D Y F G Z = λ t. record {
+    farthest_read x y z X Y Z = λ t. record {
       numbers = record {
-        x = picked n.x (number_at box 0) (number_at box 3) a b x N.x (small 0 (lit< tt)) (small 3 (lit< tt)) A B X t;
-        y = picked n.y (number_at box 1) (number_at box 4) c d y N.y (small 1 (lit< tt)) (small 4 (lit< tt)) C D Y t;
-        z = picked n.z (number_at box 2) (number_at box 5) f g z N.z (small 2 (lit< tt)) (small 5 (lit< tt)) F G Z t;
+        x = picked n.x (number_at box 0) (number_at box 3) x N.x (small 0 (lit< tt)) (small 3 (lit< tt)) X t;
+        y = picked n.y (number_at box 1) (number_at box 4) y N.y (small 1 (lit< tt)) (small 4 (lit< tt)) Y t;
+        z = picked n.z (number_at box 2) (number_at box 5) z N.z (small 2 (lit< tt)) (small 5 (lit< tt)) Z t;
       };
       k = pos 1;
     }
@@ -111,13 +106,6 @@ module _ (box : List ℤ) (e : box_within box ≡ true) where
   -- corners are small
   pub corner_small : SmallPoint (whole_point (low_corner box))
   corner_small = record { numbers = record { x = wide (small 0 (lit< tt)); y = wide (small 1 (lit< tt)); z = wide (small 2 (lit< tt)) }; k = lit≤ tt }
-
-  pub farthest_small : (n : ℕ → ℤ) → SmallPoint (whole_point (farthest box n))
-  farthest_small n =
-      let g = grid_box box e in
-      let at : (j : ℕ) → nat_abs (low_corner box j) ≤ grid_limit → nat_abs (high_corner box j) ≤ grid_limit → nat_abs (farthest box n j) ≤ largest_coordinate =
-      λ j p q. wide (either (λ z. nat_abs z ≤ grid_limit) (lt_z (n j) (pos 0)) (low_corner box j) (high_corner box j) p q) in
-      record { numbers = record { x = at 0 g.0.least g.0.greatest; y = at 1 g.1.least g.1.greatest; z = at 2 g.2.least g.2.greatest }; k = lit≤ tt }
 
 -- a corner that is in view is found
 pub corner_found : {view box : List ℤ} {n : ℕ} (A : ℕ → ℤ) → SmallPoint (whole_point A) → Seen view box n (whole_point A) → Satisfying view box n (whole_point A)

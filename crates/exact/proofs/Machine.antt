@@ -1,12 +1,12 @@
 -- The whole numbers that the machine forms, and that 64 bits carry them: minors, dot products, negations, and a plane's distance from a point. The idea: a bound on the
 -- size of each number on the way. Assumes nothing.
-use mathlib.Core.Path.{◌≡◌, refl, sym, ap, subst, ◌∙◌}
-use mathlib.Core.Bool.{Bool, true, false}
+use mathlib.Core.Path.{◌≡◌, refl, sym, ap, ◌∙◌}
+use mathlib.Core.Bool.{Bool, true}
 use Prim.Native.Nat.{ℕ, ◌+◌, ◌*◌, ◌^◌, ◌≤◌}
 use native.Mathlib.Nat.{le_trans, lt_of_le_of_lt, mul-le-mul}
 use native.Mathlib.Omega.{arith}
 use borrow.Author.Tests.{ltb-true}
-use lib.Dec.{T, lit<, lit≤}
+use lib.Dec.{lit<, lit≤}
 use lib.IntN.{ℤ, pos, negsuc, neg_ℤ, nat_abs, ◌+ℤ◌, ◌-ℤ◌, ◌*ℤ◌, +ℤ_idl}
 use lib.Signed.{lt_z}
 use mir.Syntax.{w64}
@@ -17,11 +17,10 @@ use Rattle.whole.specs.SegmentCall.{plane_within}
 use Rattle.whole.proofs.Integer.{abs_sum, abs_times}
 use Rattle.whole.proofs.Limits.{plane_sizes}
 use Rattle.whole.proofs.Registers.{Held, held_fits, read, itself, held_times, held_sum, held_minus, negation}
-use Rattle.exact.specs.declared.vec.Vec3i.{Vec3i}
 use Rattle.exact.specs.declared.plane.Plane.{Plane}
 use Rattle.exact.specs.declared.plane.Point.{Point}
 use Rattle.exact.specs.Vertex.{minor, cross, signed_by}
-use Rattle.exact.specs.Steps.{vec_of, vec, plane_of, plane, gap_at, Sized, largest_minor, largest_determinant, largest_coordinate, largest_gap, SmallPoint, GapsBelow, Products}
+use Rattle.exact.specs.Steps.{Vec3i, vec_of, vec, plane_of, plane, gap_at, Sized, largest_minor, largest_determinant, largest_coordinate, largest_gap, SmallPoint, GapsBelow, Products}
 
 -- a number, written and read again
 abbrev pub R : ℤ → ℤ
@@ -50,12 +49,6 @@ module _ (a b c d : ℤ) (A : nat_abs a ≤ normal_limit) (B : nat_abs b ≤ nor
 
   both : Held (R (R a *ℤ R d) -ℤ R (R b *ℤ R c)) (minor a b c d) largest_minor
   both = held_minus (again (lit≤ tt) first) (again (lit≤ tt) second)
-
-  pub minor_first : SFits w64 (R a *ℤ R d)
-  minor_first = fits (lit≤ tt) first
-
-  pub minor_second : SFits w64 (R b *ℤ R c)
-  minor_second = fits (lit≤ tt) second
 
   pub minor_fits : SFits w64 (R (R a *ℤ R d) -ℤ R (R b *ℤ R c))
   minor_fits = fits (lit≤ tt) both
@@ -155,9 +148,6 @@ gaps_below P p e h = lt_of_le_of_lt (gap_size (plane P) p e h) (lit< tt)
 turned : (b : ℕ) → b ≤ 2 ^ 60 → (z : ℤ) → nat_abs z ≤ b → Held (pos 0 -ℤ R z) (pos 0 -ℤ z) b
 turned b l z h = wider (omega arith) (negation (known l z h))
 
-pub turned_fits : (b : ℕ) → b ≤ 2 ^ 60 → (z : ℤ) → nat_abs z ≤ b → SFits w64 (pos 0 -ℤ R z)
-turned_fits b l z h = fits l (turned b l z h)
-
 pub turned_is : (b : ℕ) → b ≤ 2 ^ 60 → (z : ℤ) → nat_abs z ≤ b → R (pos 0 -ℤ R z) ≡ neg_ℤ z
 turned_is b l z h = (again l (turned b l z h)).is ∙ +ℤ_idl (neg_ℤ z)
 
@@ -182,12 +172,12 @@ module _ (v : Vec3i) (k : ℤ) (h : Sized largest_coordinate v) (K : nat_abs k �
       go (negsuc n) e = refl
       go (pos n) e = absurd (omega (arith, ltb-true n 0 e))
 
-  pub over_front : lt_z (R k) (pos 0) ≡ false → point v.x v.y v.z (R k) ≡ signed v k
-  over_front e = (λ t. point v.x v.y v.z ((known (lit≤ tt) k K).is t)) ∙ go k (tested false e)
+  pub below_some : lt_z (R k) (pos 0) ≡ true → pos (nat_abs k) ≡ pos 0 → ⊥
+  below_some e z = go k (tested true e) (ap nat_abs z)
     where
-      go : (k : ℤ) → lt_z k (pos 0) ≡ false → point v.x v.y v.z k ≡ signed v k
-      go (pos n) e = refl
-      go (negsuc n) e = absurd (subst T e tt)
+      go : (k : ℤ) → lt_z k (pos 0) ≡ true → nat_abs k ≡ 0 → ⊥
+      go (negsuc n) e z = absurd (omega arith)
+      go (pos n) e z = absurd (omega (arith, ltb-true n 0 e))
 
 -- ---- a cross product of two normals
 module _ (u v : Vec3i) (U : Sized normal_limit u) (W : Sized normal_limit v) where

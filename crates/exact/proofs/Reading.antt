@@ -1,22 +1,20 @@
 -- The constraints as the code reads them: numbers of a record widened to 64 bits, faces and planes made of them. Assumes nothing.
-use mathlib.Core.Path.{◌≡◌, sym, ap, subst, ◌∙◌}
+use mathlib.Core.Path.{◌≡◌, refl, sym, ap, subst, ◌∙◌}
 use mathlib.Core.Bool.{Bool, true, false, cond}
 use mathlib.Core.List.{List}
-use Prim.Native.Nat.{ℕ, ◌+◌, ◌-◌, ◌≤◌, ◌<◌}
+use Prim.Native.Nat.{ℕ, zero, suc, ◌+◌, ◌-◌, ◌≤◌, ◌<◌}
 use native.Mathlib.Nat.{le_trans}
 use native.Mathlib.Omega.{arith}
 use borrow.Author.Tests.{lt-ltb, le-ltb}
 use lib.Dec.{ltb, lit≤}
-use lib.ListN.{length}
-use lib.IntN.{ℤ, pos, neg_ℤ, nat_abs, ◌-ℤ◌}
+use lib.IntN.{ℤ, pos, negsuc, neg_ℤ, nat_abs, ◌-ℤ◌, ◌*ℤ◌}
 use Rattle.number.specs.Limits.{normal_limit, distance_limit}
 use Rattle.whole.specs.Plane.{WholePlane}
 use Rattle.whole.specs.SegmentCall.{number_at, plane_start, plane_at, plane_within}
 use Rattle.whole.proofs.Integer.{abs_neg}
 use Rattle.whole.proofs.Limits.{plane_sizes}
-use Rattle.exact.specs.declared.vec.Vec3i.{Vec3i}
 use Rattle.exact.specs.declared.plane.Plane.{Plane}
-use Rattle.exact.specs.Steps.{vec, plane, axis_direction, faces, face_at, constraint_at, Constraints}
+use Rattle.exact.specs.Steps.{Vec3i, vec, plane, axis_direction, faces, face_at, Constraints}
 use Rattle.exact.proofs.Machine.{R, again, turned_is}
 use Rattle.exact.proofs.Constraints.{face_there, plane_there}
 
@@ -85,21 +83,26 @@ module _ (v : List ℤ) (i from : ℕ) (e : from ≡ plane_start i) (s : plane_w
       (λ t. record { normal = record { x = get x _ p entry_0 t; y = get y _ q entry_1 t; z = get z _ r entry_2 t }; distance = get d _ h entry_3 t })
       ∙ (λ t. record { normal = record { x = number_at v (at_begin t); y = number_at v (e t + 1); z = number_at v (e t + 2) }; distance = number_at v (e t + 3) })
 
--- ---- a constraint
-module _ (view box : List ℤ) (i : ℕ) (c : Constraints view box (i + 1)) where
-  here : plane_within (constraint_at view box i) ≡ true
-  here = c.within i (omega arith)
+-- ---- the constraints of a view of n planes
+module _ (view box : List ℤ) (n : ℕ) (c : Constraints view box (faces + n)) where
+  pub face_given : (i : ℕ) → i < faces → plane_within (face_at box i) ≡ true
+  face_given i l = subst (λ (P : WholePlane). plane_within P ≡ true) (face_there view box i l) (c.within i (omega arith))
 
-  pub face_given : i < faces → (i < faces) × (length box ≡ 6) × (plane_within (face_at box i) ≡ true)
-  face_given l = (l, c.corners, subst (λ (P : WholePlane). plane_within P ≡ true) (face_there view box i l) here)
+  pub plane_given : (i : ℕ) → i < n → plane_within (plane_at view i) ≡ true
+  plane_given i l =
+      let e : faces + i - faces ≡ i = omega arith in
+      subst (λ (k : ℕ). plane_within (plane_at view k) ≡ true) e
+      (subst (λ (P : WholePlane). plane_within P ≡ true) (plane_there view box (faces + i) (omega arith)) (c.within (faces + i) (omega arith)))
 
-  pub face_is : i < faces → (q : Plane) → q ≡ plane (face_at box i) → q ≡ plane (constraint_at view box i)
-  face_is l q e = e ∙ sym (ap plane (face_there view box i l))
+-- ---- along an axis
+pub along_is : (i : ℕ) → i < 3 → vec (λ j. pos 1 *ℤ axis_direction i j) ≡ vec (axis_direction i)
+along_is zero l = refl
+along_is (suc zero) l = refl
+along_is (suc (suc zero)) l = refl
+along_is (suc (suc (suc i))) l = absurd (omega arith)
 
-  pub plane_given : faces ≤ i → (plane_start (i - 6) + 3 < length view) × (plane_within (plane_at view (i - 6)) ≡ true)
-  plane_given l =
-      let p = c.planes in
-      (omega arith, subst (λ (P : WholePlane). plane_within P ≡ true) (plane_there view box i l) here)
-
-  pub plane_is : faces ≤ i → (q : Plane) → q ≡ plane (plane_at view (i - 6)) → q ≡ plane (constraint_at view box i)
-  plane_is l q e = e ∙ sym (ap plane (plane_there view box i l))
+pub against_is : (i : ℕ) → i < 3 → vec (λ j. negsuc 0 *ℤ axis_direction i j) ≡ vec (λ j. neg_ℤ (axis_direction i j))
+against_is zero l = refl
+against_is (suc zero) l = refl
+against_is (suc (suc zero)) l = refl
+against_is (suc (suc (suc i))) l = absurd (omega arith)

@@ -5,17 +5,17 @@ use Prim.Native.Nat.{ℕ, ◌+◌, ◌*◌, ◌≤◌}
 use native.Mathlib.Nat.{le_trans}
 use lib.Dec.{lit≤}
 use lib.IntN.{ℤ, pos, negsuc, nat_abs, ◌+ℤ◌, ◌*ℤ◌}
+use Rattle.std.specs.Prelude.{Option}
 use Rattle.number.specs.Limits.{normal_limit, distance_limit}
 use Rattle.whole.specs.Plane.{WholePlane, dotℤ}
 use Rattle.whole.specs.SegmentCall.{plane_within}
 use Rattle.whole.proofs.Integer.{abs_neg}
 use Rattle.whole.proofs.Limits.{plane_sizes}
 use Rattle.whole.proofs.Registers.{Held}
-use Rattle.exact.specs.declared.vec.Vec3i.{Vec3i}
 use Rattle.exact.specs.declared.plane.Plane.{Plane}
 use Rattle.exact.specs.declared.plane.Point.{Point}
 use Rattle.exact.specs.Vertex.{cross, determinant, vertex_at, signed_by}
-use Rattle.exact.specs.Steps.{vec_of, vec, plane_of, plane, vertex_of, Sized, largest_minor, largest_determinant, largest_coordinate, SmallPoint, VerticesSmall, Products}
+use Rattle.exact.specs.Steps.{Vec3i, vec_of, vec, plane_of, plane, vertex_of, Only, Sized, largest_minor, largest_determinant, largest_coordinate, SmallPoint, VerticesSmall, Products}
 use Rattle.exact.proofs.Machine.{R, known, again, plane_sized, dot_size, cross_sized}
 
 abbrev pub three : ℤ → ℤ → ℤ → Vec3i
@@ -133,8 +133,8 @@ module _ (a b c : Plane) (α : plane_within (plane_of a) ≡ true) (β : plane_w
       pub over_given : Sized largest_coordinate (three (R x) (R y) (R z)) × (nat_abs (R k) ≤ largest_determinant)
       over_given = (record { x = sized X; y = sized Y; z = sized Z }, sized K)
 
-      pub vertex_is : (v : Point) → v ≡ record { numbers = vec (λ j. signed_by (R k) (vec_of (three (R x) (R y) (R z)) j)); k = pos (nat_abs (R k)) } → v ≡ vertex_of A B C
-      vertex_is v h = h ∙ (λ t. record {
+      pub vertex_only : (o : Option Point) → Only (record { numbers = vec (λ j. signed_by (R k) (vec_of (three (R x) (R y) (R z)) j)); k = pos (nat_abs (R k)) }) o → Only (vertex_of A B C) o
+      vertex_only o = subst (λ (p : Point). Only p o) (λ t. record {
         numbers = three (signed_by (K.is t) (X.is t)) (signed_by (K.is t) (Y.is t)) (signed_by (K.is t) (Z.is t));
         k = pos (nat_abs (K.is t));
       })

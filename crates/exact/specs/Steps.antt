@@ -1,12 +1,12 @@
 -- What the private functions are given and leave: records that are on the grid, numbers that are small enough to multiply, and points that the constraints
 -- taken so far have in view. They serve the contracts of private functions; the verdict's definition does not speak of them. Definitions only.
 -- The constraints of a box and a view are the six faces of the box, then the planes of the view.
-use Rattle.std.specs.Prelude.{◌≡◌, true, cond, List, ℕ, zero, suc, ◌+◌, ◌-◌, ◌*◌, ◌^◌, ◌≤◌, ◌<◌, ltb, length, ℤ, pos, neg_ℤ, nat_abs, ◌-ℤ◌, ◌*ℤ◌, ◌≤ℤ◌}
+use Rattle.std.specs.Prelude.{◌≡◌, true, cond, List, ℕ, zero, suc, ◌+◌, ◌-◌, ◌*◌, ◌^◌, ◌≤◌, ◌<◌, ltb, length, Option, MatchOption, ℤ, pos, neg_ℤ, nat_abs, ◌-ℤ◌, ◌*ℤ◌, ◌≤ℤ◌}
 use Rattle.std.specs.Int.Signed.{lt_z}
 use Rattle.number.specs.Limits.{range_length, most_planes}
 use Rattle.whole.specs.Plane.{WholePlane, dotℤ}
 use Rattle.whole.specs.SegmentCall.{number_at, plane_at, view_length, plane_within}
-use Rattle.exact.specs.declared.vec.Vec3i.{Vec3i}
+use Rattle.exact.specs.declared.vec.Vec3.{Vec3}
 use Rattle.exact.specs.declared.plane.Plane.{Plane}
 use Rattle.exact.specs.declared.plane.Point.{Point}
 use Rattle.exact.specs.ExactPoint.{ExactPoint, Satisfies}
@@ -14,6 +14,9 @@ use Rattle.exact.specs.BBoxCall.{low_corner, high_corner}
 use Rattle.exact.specs.Vertex.{determinant, vertex_at, signed_by}
 
 -- ---- values of the code
+
+abbrev pub Vec3i : Type 0
+Vec3i = Vec3 ℤ
 
 abbrev pub vec_of : Vec3i → ℕ → ℤ
 vec_of v zero = v.x
@@ -36,6 +39,10 @@ gap_at P p = dotℤ P.normal (vec_of p.numbers) -ℤ p.k *ℤ P.distance
 -- where three planes meet; its k is 0 where they do not
 abbrev pub vertex_of : WholePlane → WholePlane → WholePlane → Point
 vertex_of A B C = let D = determinant A B C in record { numbers = vec (λ j. signed_by D (vertex_at A B C j)); k = pos (nat_abs D) }
+
+-- the point p, and none where its k is 0
+abbrev pub Only : Point → Option Point → Type 0
+Only p o = MatchOption o (p.k ≡ pos 0) (λ q. (q ≡ p) × (p.k ≡ pos 0 → ⊥))
 
 -- ---- sizes: 64 bits carry every number
 
@@ -134,13 +141,12 @@ pub record Satisfying (view box : List ℤ) (n : ℕ) (p : Point) : Type 0 where
   pub small : SmallPoint p
   pub seen : Seen view box n p
 
+-- the point p is one, and satisfies the first n
+pub record Visible (view box : List ℤ) (n : ℕ) (p : Point) : Type 0 where
+  pub single : p.k ≡ pos 0 → ⊥
+  pub seen : Seen view box n p
+
 -- the vertex of the constraint n and two before it is one, and satisfies all up to n
 pub record Good (view box : List ℤ) (n b c : ℕ) : Type 0 where
   pub single : (vertex_of (constraint_at view box n) (constraint_at view box b) (constraint_at view box c)).k ≡ pos 0 → ⊥
   pub seen : Seen view box (n + 1) (vertex_of (constraint_at view box n) (constraint_at view box b) (constraint_at view box c))
-
--- what a search for a point that satisfies the first n leaves: a point whose k is 0 where there is none, and then it is known why
-pub record Searched (view box : List ℤ) (n : ℕ) (Nothing : Type 0) (p : Point) : Type 0 where
-  pub size : nat_abs p.k ≤ largest_determinant
-  pub none : p.k ≡ pos 0 → Nothing
-  pub some : (p.k ≡ pos 0 → ⊥) → Satisfying view box n p

@@ -4,5 +4,6 @@
 pub mod bbox;
 mod constraint;
 mod plane;
+mod scene;
 mod search;
-mod vec;
+pub mod vec;

@@ -1,31 +1,13 @@
 // Reads a farm file from standard input to its end, and prints for each box its number, whether it is in view and why; or that the
 // file is refused.
+// This source stands in further crates too, each for another file at standard input: a program is run on one.
 #![tactic(auto)]
 
-use farm::text::front;
-use number::limits::LARGEST_FILE;
+use input::{FILE_ROOM, read_whole};
 use reason::explain::explain;
 
-// One byte more than the largest file has: what is longer need not be kept to be told.
-const FILE_ROOM: usize = LARGEST_FILE + 1;
-
-// Reads on, and answers whether there was more.
-fn passes_more() -> bool {
-    let mut bytes = io::large_buffer();
-    0 < io::read_full(0, &mut bytes)
-}
-
-fn pass_rest() {
-    let mut turns: u64 = u64::MAX;
-    while 0 < turns && passes_more() {
-        turns -= 1;
-    }
-}
-
 fn main() {
-    let mut file = [0u8; FILE_ROOM];
-    let size = io::read_full(0, &mut file);
-    pass_rest();
-    let text = explain(&file[..size]);
-    io::write_all(1, front(&text.bytes, text.size));
+    let mut room = [0u8; FILE_ROOM];
+    let size = read_whole(&mut room);
+    io::write_all(1, explain(&room[..size]).as_slice());
 }

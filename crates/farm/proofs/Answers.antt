@@ -8,7 +8,6 @@ use borrow.Author.Tests.{eq-eqb}
 use lib.Dec.{leb}
 use lib.ListN.{length, length-map, take, replicate}
 use lib.Seq.{take_at}
-use lib.Ieee.{Float}
 use Rattle.number.specs.Limits.{largest_file}
 use Rattle.number.specs.Answer.{Outcome, refused, outcome, unless, and_then}
 use Rattle.number.specs.Slots.{unused}
@@ -16,8 +15,8 @@ use Rattle.number.proofs.Filled.{length_slots}
 use Rattle.verdict.specs.View.{is_count}
 use Rattle.group.specs.Batch.{slot_of}
 use Rattle.farm.specs.Directory.{section_count, box_sections, well_formed}
-use Rattle.farm.specs.FarmFile.{volume_there, count_number, plane_count, sized, boxes_flagged, numbers_finite, in_view, checked_file, farm_file, slot_count, Listing, listing, listed, farm_file_call, numbers_room}
-use Rattle.farm.specs.Steps.{Ready, sized_planes, boxes_seen, is_yes, FileAnswered, judge_call}
+use Rattle.farm.specs.FarmFile.{volume_there, count_number, plane_count, sized, boxes_flagged, numbers_finite, in_view, checked_file, farm_file, slot_count, Listing, listing, listed, farm_file_call}
+use Rattle.farm.specs.Steps.{Ready, sized_planes, boxes_seen, is_yes, FileAnswered}
 use Rattle.farm.proofs.SectionsLeft.{as_many}
 use Rattle.farm.proofs.Placed.{at_most}
 
@@ -97,10 +96,6 @@ said : (vs : List Bool) → map is_yes (map slot_of vs) ≡ vs
 said [] = refl
 said (true ∷ vs) = ap (λ (l : List Bool). true ∷ l) (said vs)
 said (false ∷ vs) = ap (λ (l : List Bool). false ∷ l) (said vs)
-
-pub with_room : (b : List ℕ) (room : List Float) (out : List ℕ) → length room ≡ numbers_room → judge_call b room out ≡ farm_file_call b out
-unfolding judge_call
-with_room b room out h = ap (λ (t : Bool). unless t (listing (refused 2) out) (farm_file_call b out)) (eq-eqb (length room) numbers_room h)
 
 -- a call that counts its boxes has an answer, and its slots have the verdicts
 module _ (b out : List ℕ) (q : length out ≡ slot_count) (l : List ℕ) where

@@ -1,11 +1,12 @@
 -- What a farm file comes to: a verdict for each of its boxes, or the number of its refusal; and what a call leaves. Definitions only.
-use Rattle.std.specs.Prelude.{ℕ, ◌+◌, ◌-◌, ◌*◌, ◌≡◌, Bool, ◌&&◌, List, map, eqb, leb, length, Float}
+use Rattle.std.specs.Prelude.{ℕ, ◌+◌, ◌-◌, ◌*◌, ◌≡◌, Bool, ◌&&◌, List, map, eqb, leb, length, Float, Result, Ok, Err, IfOk}
 use Rattle.number.specs.Limits.{box_length, fewest_planes, most_planes, largest_file, most_sections}
 use Rattle.number.specs.Every.{every}
 use Rattle.number.specs.Bytes.{f64_at}
 use Rattle.number.specs.Slots.{slots_of}
 use Rattle.number.specs.Slice.{all_finite}
-use Rattle.number.specs.Answer.{Outcome, refused, outcome, unless, counted_of}
+use Rattle.number.specs.declared.answer.Refusal.{Refusal}
+use Rattle.number.specs.Answer.{Outcome, refused, outcome, unless, number_of}
 use Rattle.verdict.specs.BBox.{box_of}
 use Rattle.verdict.specs.BBoxCalls.{flagged}
 use Rattle.verdict.specs.View.{volume_length, whole_part, is_count, planes_of}
@@ -102,7 +103,12 @@ farm_file_call b out =
 abbrev pub numbers_room : ℕ
 numbers_room = volume_length most_planes + slot_count * box_length
 
+-- how many boxes a file was judged to have, or the number of its refusal
+abbrev pub counted : Result Judgement Refusal → Outcome ℕ
+counted (Ok j) = outcome j.boxes
+counted (Err r) = refused (number_of r)
+
 -- What a file comes to, with what the slots hold, and its numbers in front where it is answered.
-pub record Judged (b out : List ℕ) (j : Judgement) (left : List ℕ) : Type 0 where
-  pub call : listing (counted_of j.answer) left ≡ farm_file_call b out
-  pub kept : (n : ℕ) → counted_of j.answer ≡ outcome n → InFront (file_numbers b) j.numbers
+pub record Judged (b out : List ℕ) (j : Result Judgement Refusal) (left : List ℕ) : Type 0 where
+  pub call : listing (counted j) left ≡ farm_file_call b out
+  pub kept : IfOk j (λ a. InFront (file_numbers b) a.numbers)

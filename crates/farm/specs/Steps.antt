@@ -1,11 +1,9 @@
--- What the private functions of this crate ask of a file and of a text, and what they promise one another. Definitions only; no contract of a public function speaks of them.
-use Rattle.std.specs.Prelude.{ℕ, ◌+◌, ◌-◌, ◌*◌, ◌≤◌, ◌≡◌, Bool, true, List, map, eqb, length, take, Float}
-use Rattle.number.specs.Limits.{most_planes}
-use Rattle.number.specs.Answer.{Outcome, refused, outcome, unless, has}
+-- What the private functions of this crate ask of a file, and what they promise one another. Definitions only; no contract of a public function speaks of them.
+use Rattle.std.specs.Prelude.{ℕ, ◌+◌, ◌-◌, ◌≤◌, ◌≡◌, Bool, true, List, map, eqb, length, take, Float}
+use Rattle.number.specs.Answer.{Outcome, refused, outcome, unless}
 use Rattle.verdict.specs.View.{is_count}
 use Rattle.farm.specs.Directory.{section_count, box_sections, file_numbers, InFront, well_formed}
-use Rattle.farm.specs.FarmFile.{volume_there, count_number, plane_count, sized, boxes_flagged, numbers_finite, in_view, farm_file, slot_count, Listing, listing, farm_file_call, numbers_room}
-use Rattle.farm.specs.Text.{inserted}
+use Rattle.farm.specs.FarmFile.{volume_there, count_number, plane_count, sized, boxes_flagged, numbers_finite, in_view, farm_file, slot_count, listing, farm_file_call}
 
 -- ---- a file
 
@@ -42,26 +40,13 @@ pub record FileAnswered (b : List ℕ) (n : ℕ) (slots : List ℕ) : Type 0 whe
   pub all : n ≤ length slots
   pub seen : map is_yes (take n slots) ≡ verdicts
 
--- a call with a room, which is refused with 2 where that has another length
-unfoldable pub judge_call : List ℕ → List Float → List ℕ → Listing
-unfolding farm_file_call
-judge_call b room out = unless (has numbers_room room) (listing (refused 2) out) (farm_file_call b out)
-
--- What it leaves: that, and the numbers of a file that is answered in front of the room.
-pub record JudgedBy (b : List ℕ) (room : List Float) (out : List ℕ) (answer : Outcome ℕ) (numbers : List Float) (left : List ℕ) : Type 0 where
-  pub call : listing answer left ≡ judge_call b room out
+-- What a call with a room leaves, and the numbers of a file that is answered in front of the room.
+pub record JudgedBy (b out : List ℕ) (answer : Outcome ℕ) (numbers : List Float) (left : List ℕ) : Type 0 where
+  pub call : listing answer left ≡ farm_file_call b out
   pub kept : (n : ℕ) → answer ≡ outcome n → InFront (file_numbers b) numbers
 
 -- ---- a text
 
--- what putting bytes from a place of a text on answers and leaves, where there is room for them
-abbrev pub Put : List ℕ → ℕ → List ℕ → ℕ → List ℕ → Type 0
-Put text at s place left = (place ≡ at + length s) × (left ≡ inserted text at s)
-
 -- the most bytes of a line: two digits, " yes" and its end
 abbrev pub line_room : ℕ
 line_room = 2 + 4 + 1
-
--- the bytes of a text: for each box those of the longest line of any program
-abbrev pub text_room : ℕ
-text_room = slot_count * (2 + 4 + 3 * most_planes + 10 + 1)

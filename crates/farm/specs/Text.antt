@@ -1,6 +1,7 @@
--- Lines as bytes in ASCII, and what is put into a text of them. Definitions only.
-use Rattle.std.specs.Prelude.{ℕ, suc, ◌+◌, ◌/◌, ◌%◌, Bool, cond, ◌≡◌, List, [], ◌∷◌, ◌++◌, ltb, leb, length, take, drop}
-use Rattle.farm.specs.declared.text.Text.{Text}
+-- Lines as bytes in ASCII, and what is pushed to a text of them. Definitions only.
+use Rattle.std.specs.Prelude.{ℕ, suc, ◌+◌, ◌*◌, ◌/◌, ◌%◌, ◌≤◌, ◌<◌, cond, ◌≡◌, List, [], ◌∷◌, ◌++◌, ltb, length}
+use Rattle.number.specs.Limits.{most_planes}
+use Rattle.farm.specs.FarmFile.{slot_count}
 
 -- a number below 100: its digits from '0' on. No larger one occurs; it has none.
 unfoldable pub decimal : ℕ → List ℕ
@@ -19,18 +20,15 @@ unfoldable pub refused_line : ℕ → List ℕ
 unfolding decimal
 refused_line n = refused_word ++ decimal n ++ (10 ∷ [])
 
--- the lines of a text: its first bytes
-abbrev pub shown : Text → List ℕ
-shown t = take t.size t.bytes
+-- the bytes that a text has room for: for each box those of the longest line of any program
+abbrev pub text_room : ℕ
+text_room = slot_count * (2 + 4 + 3 * most_planes + 10 + 1)
 
--- what a text holds after bytes were put there from a place on
-abbrev pub inserted : List ℕ → ℕ → List ℕ → List ℕ
-inserted text at s = take at text ++ s ++ drop (at + length s) text
+-- Bytes stand behind those that a text had, if it has room for them.
+pub record Added (text s left : List ℕ) : Type 0 where
+  pub room : length text + length s ≤ text_room → left ≡ text ++ s
 
--- it has room for them
-abbrev pub has_room : List ℕ → ℕ → List ℕ → Bool
-has_room text at s = leb (at + length s) (length text)
-
--- What putting bytes there answers, the place behind them, and leaves. Without room for them it leaves the text alone, and the place.
-abbrev pub Puts : List ℕ → ℕ → List ℕ → ℕ → List ℕ → Type 0
-Puts text at s place left = (place ≡ cond (has_room text at s) (at + length s) at) × (left ≡ cond (has_room text at s) (inserted text at s) text)
+-- They do, and a text without room for them stays as it was.
+pub record Pushed (text s left : List ℕ) : Type 0 where
+  pub added : Added text s left
+  pub full : text_room < length text + length s → left ≡ text

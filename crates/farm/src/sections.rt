@@ -1,18 +1,18 @@
 // The sections of a well-formed farm file: their sizes and numbers, and whether each box is in view.
-ghost use Rattle.std.specs.Prelude.{◌≡◌, true, ◌++◌, ◌/◌, ◌<◌, ◌≤◌, length, take, drop};
-ghost use Rattle.number.specs.Answer.{counted_of};
-ghost use Rattle.verdict.specs.View.{held_of};
-ghost use Rattle.farm.specs.Directory.{section_count, section_at, numbers_of, file_numbers, InFront, well_formed};
-ghost use Rattle.farm.specs.FarmFile.{plane_count, boxes_sized, slot_count, listing, listed};
-ghost use Rattle.farm.specs.Steps.{Measured, sized_planes, boxes_seen};
+ghost use Rattle.std.specs.Prelude.{◌≡◌, true, ◌++◌, ◌/◌, ◌<◌, ◌≤◌, length, take, drop, MatchResult};
+ghost use Rattle.number.specs.Answer.{outcome_of, outcome, refused, number_of};
+ghost use Rattle.verdict.specs.View.{is_count};
+ghost use Rattle.farm.specs.Directory.{section_count, section_at, numbers_of, file_numbers, InFront};
+ghost use Rattle.farm.specs.FarmFile.{count_number, plane_count, boxes_sized, sized, slot_count, listing, listed};
+ghost use Rattle.farm.specs.Steps.{sized_planes, boxes_seen};
 
-use crate::directory::{SLOT_COUNT, section_at};
+use crate::directory::{Directory, SLOT_COUNT};
 use group::batch::intersects_bboxes;
-use number::answer::{Counted, Refusal, Written};
-use number::bytes::{load, number_at, word_32};
+use number::answer::Refusal;
+use number::bytes::{load, number_at};
 use number::limits::{BOX_LENGTH, FEWEST_PLANES, MOST_PLANES, PLANE_LENGTH, RAY_LENGTH};
 use number::slots::clear;
-use verdict::view::{Held, plane_count_of, volume_length};
+use verdict::view::{plane_count_of, volume_length};
 
 // The bytes of a number.
 pub const NUMBER_SIZE: usize = 8;
@@ -23,102 +23,104 @@ const BOX_SIZE: u32 = NUMBER_SIZE as u32 * BOX_LENGTH as u32;
 // Room for the volume of any file: a count, the most planes and four rays.
 const VOLUME_ROOM: usize = 1 + MOST_PLANES as usize * PLANE_LENGTH + 4 * RAY_LENGTH;
 
-// Room for the numbers of any file: those of the volume, and those of the most boxes.
+// Room for the numbers of any file: those of the volume, and those of the most boxes. No list that is pushed to, since each section is loaded
+// straight to its place.
 pub const NUMBERS_ROOM: usize = VOLUME_ROOM + SLOT_COUNT * BOX_LENGTH;
 
-// Whether each section behind the volume's has as many bytes as a box.
-fn are_boxes(file: &[u8]) -> bool
-    requires { well_formed file.now ≡ true }
-    ensures { result ≡ boxes_sized file.now }
-{
-    let count = word_32(file, 0);
-    let mut i: u32 = 1;
-    while i < count {
-        if section_at(file, i).size != BOX_SIZE {
-            return false;
-        }
-        i += 1;
-    }
-    true
+// A file whose sections have as many bytes as their records each, and how many planes its volume has.
+#[derive(Clone, Copy)]
+pub struct Sections<'a> {
+    directory: Directory<'a>,
+    planes: u32,
+    ghost count: { is_count (count_number directory.file.now) ≡ true },
+    ghost sizes: { sized directory.file.now ≡ true },
+    ghost counted: { planes ≡ plane_count directory.file.now },
 }
 
-// How many planes the number in front of the volume says there are, if every section has as many bytes as its record.
-pub(crate) fn plane_count(file: &[u8]) -> Held
-    requires { well_formed file.now ≡ true }
-    ensures { held_of result ≡ sized_planes file.now }
-{
-    let volume = section_at(file, 0);
-    let size = volume.size as usize;
-    if size < NUMBER_SIZE * volume_length(FEWEST_PLANES) {
-        return Held::Refused(Refusal::SectionLength);
-    }
-    let start = volume.offset as usize;
-    match plane_count_of(number_at(file, start)) {
-        Held::Planes(planes) => {
-            if size != NUMBER_SIZE * volume_length(planes) {
-                return Held::Refused(Refusal::SectionLength);
+impl<'a> Directory<'a> {
+    // Whether each section behind the volume's has as many bytes as a box.
+    fn are_boxes(&self) -> bool
+        ensures { result ≡ boxes_sized self.now.file.now }
+    {
+        for i in 1..self.count {
+            if self.section(i).size != BOX_SIZE {
+                return false;
             }
-            if !are_boxes(file) {
-                return Held::Refused(Refusal::SectionLength);
-            }
-            Held::Planes(planes)
         }
-        Held::Refused(refusal) => Held::Refused(refusal),
+        true
     }
-}
 
-// The numbers of a section to the front of a room; answers how many they are.
-fn load_section(file: &[u8], i: u32, room: &mut [f64]) -> usize
-    requires { (well_formed file.now ≡ true) × (i < section_count file.now) × ((section_at file.now i).size / 8 ≤ length room.old) }
-    ensures { (result ≡ (section_at file.now i).size / 8) × (room.new ≡ numbers_of file.now (section_at file.now i) ++ drop ((section_at file.now i).size / 8) room.old) }
-{
-    let found = section_at(file, i);
-    let size = found.size as usize;
-    let start = found.offset as usize;
-    let count = size / NUMBER_SIZE;
-    load(file, start, &mut room[..count]);
-    count
-}
-
-// The numbers of all sections, one behind the other, to the front of a room; answers how many they are.
-fn load_sections(file: &[u8], room: &mut [f64]) -> usize
-    requires { (well_formed file.now ≡ true) × (length (file_numbers file.now) ≤ length room.old) }
-    ensures { (length room.new ≡ length room.old) × (result ≤ length room.new) × (take result room.new ≡ file_numbers file.now) }
-{
-    let count = word_32(file, 0);
-    let mut taken: usize = 0;
-    let mut i: u32 = 0;
-    while i < count {
-        taken += load_section(file, i, &mut room[taken..]);
-        i += 1;
-    }
-    taken
-}
-
-// What a file with so many planes comes to, by the numbers of all its sections: its boxes are a batch, and a slot without a box is cleared.
-fn answer_by(file: &[u8], planes: u32, numbers: &[f64], out: &mut [u32]) -> Counted
-    requires measured { Measured file.now × (planes ≡ plane_count file.now) }
-    requires numbers_value { (numbers.now ≡ file_numbers file.now) × (length out.old ≡ slot_count) }
-    ensures { listing (counted_of result) out.new ≡ listed (boxes_seen file.now) out.old }
-{
-    let size = volume_length(planes);
-    let count = word_32(file, 0) - 1;
-    let boxes = count as usize;
-    match intersects_bboxes(&numbers[..size], &numbers[size..], &mut out[..boxes]) {
-        Written::Done => {
-            clear(&mut out[boxes..]);
-            Counted::Count(count)
+    // The sections, by the number in front of the volume, which says how many planes there are.
+    pub fn sections(&self) -> Result<Sections<'a>, Refusal>
+        ensures { let b = self.now.file.now in MatchResult result
+            (λ s. (outcome s.planes ≡ sized_planes b) × (s.directory.file.now ≡ b))
+            (λ r. refused (number_of r) ≡ sized_planes b) }
+    {
+        let volume = self.section(0);
+        let size = volume.size as usize;
+        if size < NUMBER_SIZE * volume_length(FEWEST_PLANES) {
+            return Err(Refusal::SectionLength);
         }
-        Written::Refused(refusal) => Counted::Refused(refusal),
+        let start = volume.offset as usize;
+        let planes = plane_count_of(number_at(self.file, start))?;
+        if size != NUMBER_SIZE * volume_length(planes) {
+            return Err(Refusal::SectionLength);
+        }
+        if !self.are_boxes() {
+            return Err(Refusal::SectionLength);
+        }
+        Ok(Sections {
+            directory: *self,
+            planes,
+        })
+    }
+
+    // The numbers of a section to the front of a room; answers how many they are.
+    fn load_section(&self, i: u32, room: &mut [f64]) -> usize
+        requires { let b = self.now.file.now in (i < section_count b) × ((section_at b i).size / 8 ≤ length room.old) }
+        ensures { let b = self.now.file.now in (result ≡ (section_at b i).size / 8) × (room.new ≡ numbers_of b (section_at b i) ++ drop ((section_at b i).size / 8) room.old) }
+    {
+        let found = self.section(i);
+        let size = found.size as usize;
+        let start = found.offset as usize;
+        let count = size / NUMBER_SIZE;
+        load(self.file, start, &mut room[..count]);
+        count
+    }
+
+    // The numbers of all sections, one behind the other, to the front of a room; answers how many they are.
+    fn load(&self, room: &mut [f64]) -> usize
+        requires { length (file_numbers self.now.file.now) ≤ length room.old }
+        ensures { (length room.new ≡ length room.old) × (result ≤ length room.new) × (take result room.new ≡ file_numbers self.now.file.now) }
+    {
+        let mut taken: usize = 0;
+        for i in 0..self.count {
+            taken += self.load_section(i, &mut room[taken..]);
+        }
+        taken
     }
 }
 
-// What a file with so many planes comes to, and the numbers of its sections to the front of a room.
-pub(crate) fn answer(file: &[u8], planes: u32, room: &mut [f64], out: &mut [u32]) -> Counted
-    requires measured { Measured file.now × (planes ≡ plane_count file.now) }
-    requires file_in_bounds { (length (file_numbers file.now) ≤ length room.old) × (length out.old ≡ slot_count) }
-    ensures { (listing (counted_of result) out.new ≡ listed (boxes_seen file.now) out.old) × InFront (file_numbers file.now) room.new }
-{
-    let taken = load_sections(file, room);
-    answer_by(file, planes, &room[..taken], out)
+impl<'a> Sections<'a> {
+    // What the file comes to, by the numbers of all its sections: its boxes are a batch, and a slot without a box is cleared.
+    fn answer_by(&self, numbers: &[f64], out: &mut [u32]) -> Result<u32, Refusal>
+        requires { (numbers.now ≡ file_numbers self.now.directory.file.now) × (length out.old ≡ slot_count) }
+        ensures { listing (outcome_of result) out.new ≡ listed (boxes_seen self.now.directory.file.now) out.old }
+    {
+        let size = volume_length(self.planes);
+        let count = self.directory.count - 1;
+        let boxes = count as usize;
+        intersects_bboxes(&numbers[..size], &numbers[size..], &mut out[..boxes])?;
+        clear(&mut out[boxes..]);
+        Ok(count)
+    }
+
+    // What the file comes to, and the numbers of its sections to the front of a room.
+    pub fn answer(&self, room: &mut [f64; NUMBERS_ROOM], out: &mut [u32]) -> Result<u32, Refusal>
+        requires { length out.old ≡ slot_count }
+        ensures { let b = self.now.directory.file.now in (listing (outcome_of result) out.new ≡ listed (boxes_seen b) out.old) × InFront (file_numbers b) room.new }
+    {
+        let taken = self.directory.load(room);
+        self.answer_by(&room[..taken], out)
+    }
 }

@@ -1,72 +1,74 @@
-// Lines as bytes: a text of them, and what is put into it.
-ghost use Rattle.std.specs.Prelude.{◌≡◌, take};
+// Lines as bytes: a text of them, to which bytes are pushed.
+ghost use Rattle.std.specs.Prelude.{◌≡◌, []};
 ghost use Rattle.number.specs.Answer.{number_of};
-ghost use Rattle.farm.specs.Text.{decimal, refused_line, shown, Puts};
+ghost use Rattle.farm.specs.Text.{decimal, refused_line, Pushed};
 
 use crate::directory::SLOT_COUNT;
+use arrayvec::ArrayVec;
+use itoa::Buffer;
 use number::answer::Refusal;
 use number::limits::MOST_PLANES;
+use std::marker::Model;
 
 // Room for a line of any program: two digits, ` yes`, three bytes for each plane, ` exact-yes` and its end.
 const LINE_ROOM: usize = 2 + 4 + 3 * MOST_PLANES as usize + 10 + 1;
 
 // Room for the lines of any file, one for each box.
-pub const TEXT_ROOM: usize = SLOT_COUNT * LINE_ROOM;
+const TEXT_ROOM: usize = SLOT_COUNT * LINE_ROOM;
 
-// Lines: the first bytes, so many.
-#[derive(Clone, Copy)]
+// Lines, which lie in the value itself: nothing is allocated.
+#[derive(Drop)]
 pub struct Text {
-    pub bytes: [u8; TEXT_ROOM],
-    pub size: usize,
+    bytes: ArrayVec<u8, TEXT_ROOM>,
 }
 
-// Bytes to a place of a text, where there is room for them; answers the place behind them.
-pub fn put(text: &mut [u8], at: usize, bytes: &[u8]) -> usize
-    ensures { Puts text.old at bytes.now result text.new }
-{
-    if text.len() < at {
-        return at;
-    }
-    if text.len() - at < bytes.len() {
-        return at;
-    }
-    let end = at + bytes.len();
-    text[at..end].copy_from_slice(bytes);
-    end
+impl Model for Text {
+    ghost use Rattle.std.specs.Prelude.{List, ℕ};
+
+    ghost Value = { List ℕ };
+
+    ghost view = { λ t. t.bytes.items };
 }
 
-// The digits of a number below 100.
-pub fn put_decimal(text: &mut [u8], at: usize, n: u32) -> usize
-    ensures { Puts text.old at (decimal n) result text.new }
-{
-    if n < 10 {
-        let digit = [48 + n as u8];
-        return put(text, at, &digit);
+impl Text {
+    pub fn new() -> Text
+        ensures { result ≡ [] }
+    {
+        Text {
+            bytes: ArrayVec::new(),
+        }
     }
-    if n < 100 {
-        let digits = [48 + (n / 10) as u8, 48 + (n % 10) as u8];
-        return put(text, at, &digits);
+
+    pub fn as_slice(&self) -> &[u8]
+        ensures { result.now ≡ self.now }
+    {
+        self.bytes.as_slice()
     }
-    at
+
+    // Bytes behind the others, where there is room for them.
+    pub fn push(&mut self, bytes: &[u8])
+        ensures { Pushed self.old bytes.now self.new }
+    {
+        let _ = self.bytes.try_extend_from_slice(bytes);
+    }
+
+    // The digits of a number below 100.
+    pub fn push_decimal(&mut self, n: u32)
+        ensures { Pushed self.old (decimal n) self.new }
+    {
+        if n < 100 {
+            self.push(Buffer::new().format(n).as_bytes());
+        }
+    }
 }
 
 // The line of a refused file.
 pub fn refused(refusal: Refusal) -> Text
-    ensures { shown result ≡ refused_line (number_of refusal) }
+    ensures { result ≡ refused_line (number_of refusal) }
 {
-    let mut bytes = [0u8; TEXT_ROOM];
-    let named = put(&mut bytes, 0, b"refused ");
-    let numbered = put_decimal(&mut bytes, named, refusal.number());
-    let size = put(&mut bytes, numbered, b"\n");
-    Text { bytes, size }
-}
-
-// The first bytes of some, or all of them where there are no more.
-pub fn front(bytes: &[u8], size: usize) -> &[u8]
-    ensures { result.now ≡ take size bytes.now }
-{
-    if bytes.len() < size {
-        return bytes;
-    }
-    &bytes[..size]
+    let mut text = Text::new();
+    text.push(b"refused ");
+    text.push_decimal(u32::from(refusal));
+    text.push(b"\n");
+    text
 }

@@ -1,6 +1,6 @@
 -- Which screen hides a sight line, on the farm grid: the answer is the exact one. Definitions and statements only. `A ↔ B` says that A holds exactly where B does.
-use Rattle.std.specs.Prelude.{◌≡◌, ◌↔◌, List, ℕ, ◌<◌, length, ℤ, Float}
-use Rattle.number.specs.Answer.{Outcome, refused, outcome, Found, nowhere, found}
+use Rattle.std.specs.Prelude.{◌≡◌, ◌↔◌, List, ℕ, ◌<◌, length, ℤ, Float, None, Option, Some}
+use Rattle.number.specs.Answer.{Outcome, refused, outcome}
 use Rattle.blocking.specs.Blocking.{without}
 use Rattle.blocking.specs.Calls.{blocking_plane_call}
 use Rattle.whole.specs.Plane.{WholePlane}
@@ -13,13 +13,13 @@ pub record FirstAbsent (Ps : List WholePlane) (A B : ℕ → ℤ) (i : ℕ) : Ty
   pub seen : SegmentInView (without i Ps) A B
   pub first : (j : ℕ) → j < i → SegmentInView (without j Ps) A B → ⊥
 
-pub record BlockingAnswer (answer : Outcome Found) (Ps : List WholePlane) (A B : ℕ → ℤ) : Type 0 where
+pub record BlockingAnswer (answer : Outcome (Option ℕ)) (Ps : List WholePlane) (A B : ℕ → ℤ) : Type 0 where
   -- "14 if the segment is already answered yes": some exact point satisfies all planes. Nothing else is refused.
   pub in_view : (answer ≡ refused 14) ↔ SegmentInView Ps A B
   pub no_other : (k : ℕ) → answer ≡ refused k → k ≡ 14
-  pub named : (i : ℕ) → (answer ≡ outcome (found i)) ↔ ((SegmentInView Ps A B → ⊥) × FirstAbsent Ps A B i)
+  pub named : (i : ℕ) → (answer ≡ outcome (Some i)) ↔ ((SegmentInView Ps A B → ⊥) × FirstAbsent Ps A B i)
   -- "none means that no single absence does"
-  pub none : (answer ≡ outcome nowhere) ↔ ((j : ℕ) → j < length Ps → SegmentInView (without j Ps) A B → ⊥)
+  pub none : (answer ≡ outcome None) ↔ ((j : ℕ) → j < length Ps → SegmentInView (without j Ps) A B → ⊥)
 
 abbrev pub BlockingExact : Type 0
 BlockingExact =

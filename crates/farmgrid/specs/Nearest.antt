@@ -1,11 +1,11 @@
 -- The nearest block on the farm grid: of ranges with grid corners and a grid point the answers are the exact ones. Definitions and statements only.
 -- Squared distances are whole numbers, so that no root is taken and nothing is rounded.
-use Rattle.std.specs.Prelude.{◌≡◌, cond, ◌↔◌, ℕ, ◌*◌, ◌≤◌, ◌<◌, length, ℤ, pos, ◌-ℤ◌, ◌≤ℤ◌, ◌<ℤ◌, Float}
+use Rattle.std.specs.Prelude.{◌≡◌, cond, ◌↔◌, ℕ, ◌*◌, ◌≤◌, ◌<◌, length, ℤ, pos, ◌-ℤ◌, ◌≤ℤ◌, ◌<ℤ◌, Float, None, Option, Some}
 use mathlib.Core.List.{List, Memᴰ}
 use Rattle.std.specs.Int.Signed.{lt_z}
 use Rattle.number.specs.Limits.{range_length}
 use Rattle.number.specs.Slots.{slots_of}
-use Rattle.number.specs.Answer.{Outcome, outcome, Found, nowhere, found}
+use Rattle.number.specs.Answer.{Outcome, outcome}
 use Rattle.nearest.specs.Nearest.{most_ranges, range_at}
 use Rattle.nearest.specs.Calls.{nearest_call, Listing, listing, within_call}
 use Rattle.nearest.specs.Meaning.{Rising}
@@ -47,11 +47,11 @@ pub record ExactlyNearest (n : ℕ) (low high : ℕ → ℕ → ℤ) (A : ℕ �
   pub earlier_further : (j : ℕ) → j < i → NonEmpty (low j) (high j) → square_to (low i) (high i) A <ℤ square_to (low j) (high j) A
 
 -- an answer is not refused, and is a place exactly where that is nearest, and nowhere exactly where every range is empty
-pub record NearestAnswer (answer : Outcome Found) (n : ℕ) (low high : ℕ → ℕ → ℤ) (A : ℕ → ℤ) : Type 0 where
-  pub place : Found
+pub record NearestAnswer (answer : Outcome (Option ℕ)) (n : ℕ) (low high : ℕ → ℕ → ℤ) (A : ℕ → ℤ) : Type 0 where
+  pub place : Option ℕ
   pub answered : answer ≡ outcome place
-  pub nearest : (i : ℕ) → (place ≡ found i) ↔ ExactlyNearest n low high A i
-  pub all_empty : (place ≡ nowhere) ↔ ((i : ℕ) → i < n → NonEmpty (low i) (high i) → ⊥)
+  pub nearest : (i : ℕ) → (place ≡ Some i) ↔ ExactlyNearest n low high A i
+  pub all_empty : (place ≡ None) ↔ ((i : ℕ) → i < n → NonEmpty (low i) (high i) → ⊥)
 
 abbrev pub NearestExact : Type 0
 NearestExact =

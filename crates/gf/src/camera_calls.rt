@@ -3,6 +3,8 @@ ghost use Rattle.std.specs.Prelude.{◌≡◌};
 ghost use Rattle.number.specs.Answer.{answered};
 ghost use Rattle.camera.specs.Camera.{camera_call};
 
+use number::answer::status;
+
 #[unsafe(no_mangle)]
 pub extern "C" fn gf_camera_set_from_view_and_projection(
     view: &[f64],
@@ -12,5 +14,5 @@ pub extern "C" fn gf_camera_set_from_view_and_projection(
 ) -> u32
     ensures { answered result out.new ≡ camera_call view.now projection.now focal_length out.old }
 {
-    camera::camera_calls::set_from_view_and_projection(view, projection, focal_length, out).status()
+    status(camera::camera_calls::set_from_view_and_projection(view, projection, focal_length, out))
 }

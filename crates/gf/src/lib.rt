@@ -1,4 +1,5 @@
-// The C functions of include/gf.h: each is the operation of the same name, with the number of its answer.
+// The C functions of include/gf.h: each is the operation of the same name, with the number of its answer. They take slices and numbers and
+// have no types of their own, since this is the C interface.
 #![tactic(auto)]
 
 pub mod bbox_calls;

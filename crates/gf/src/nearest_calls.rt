@@ -3,11 +3,13 @@ ghost use Rattle.std.specs.Prelude.{◌≡◌};
 ghost use Rattle.number.specs.Answer.{lone, put, put_place};
 ghost use Rattle.nearest.specs.Calls.{nearest_call, within_call};
 
+use number::answer::{put, put_place};
+
 #[unsafe(no_mangle)]
 pub extern "C" fn gf_range_nearest(ranges: &[f64], p: &[f64], place: &mut u32) -> u32
     ensures { lone result place.new ≡ put_place (nearest_call ranges.now p.now) place.old }
 {
-    nearest::nearest_calls::nearest(ranges, p).put(place)
+    put_place(nearest::nearest_calls::nearest(ranges, p), place)
 }
 
 #[unsafe(no_mangle)]
@@ -20,5 +22,5 @@ pub extern "C" fn gf_range_within(
 ) -> u32
     ensures { (lone result found.new ≡ put (within_call ranges.now p.now limit out.old).count found.old) × (out.new ≡ (within_call ranges.now p.now limit out.old).out) }
 {
-    nearest::nearest_calls::within(ranges, p, limit, out).put(found)
+    put(nearest::nearest_calls::within(ranges, p, limit, out), found)
 }

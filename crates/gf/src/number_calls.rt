@@ -7,6 +7,8 @@ ghost use Rattle.number.specs.Format.{narrow_of, widen_of};
 ghost use Rattle.number.specs.Grid.{grid_call};
 ghost use Rattle.number.specs.Root.{sqrt_of};
 
+use number::answer::status;
+
 #[unsafe(no_mangle)]
 pub extern "C" fn gf_sqrt(x: f64) -> f64
     ensures { result ≡ sqrt_of binary64 x }
@@ -53,5 +55,5 @@ pub extern "C" fn gf_widen(x: f32) -> f64
 pub extern "C" fn gf_grid(p: &[f64], out: &mut [f64]) -> u32
     ensures { answered result out.new ≡ grid_call p.now out.old }
 {
-    number::grid::grid(p, out).status()
+    status(number::grid::grid(p, out))
 }

@@ -3,6 +3,8 @@ ghost use Rattle.std.specs.Prelude.{◌≡◌};
 ghost use Rattle.number.specs.Answer.{answered};
 ghost use Rattle.volume.specs.Volume.{from_matrices_call};
 
+use number::answer::status;
+
 #[unsafe(no_mangle)]
 pub extern "C" fn gf_volume_from_view_and_projection(
     view: &[f64],
@@ -11,5 +13,5 @@ pub extern "C" fn gf_volume_from_view_and_projection(
 ) -> u32
     ensures { answered result out.new ≡ from_matrices_call view.now projection.now out.old }
 {
-    volume::volume::from_view_and_projection(view, projection, out).status()
+    status(volume::volume::from_view_and_projection(view, projection, out))
 }

@@ -4,6 +4,8 @@ ghost use Rattle.number.specs.Answer.{lone, put_verdict};
 ghost use Rattle.exact.specs.BBoxCall.{WholeBoxPut};
 ghost use Rattle.whole.specs.SegmentCall.{whole_segment_call};
 
+use number::answer::put_verdict;
+
 #[unsafe(no_mangle)]
 pub extern "C" fn gf_whole_intersects_segment(
     view: &[i32],
@@ -13,7 +15,7 @@ pub extern "C" fn gf_whole_intersects_segment(
 ) -> u32
     ensures { lone result out.new ≡ put_verdict (whole_segment_call view.now p0.now p1.now) out.old }
 {
-    whole::segment::intersects_segment(view, p0, p1).put(out)
+    put_verdict(whole::segment::intersects_segment(view, p0, p1), out)
 }
 
 #[unsafe(no_mangle)]
@@ -25,5 +27,5 @@ pub extern "C" fn gf_whole_intersects_bbox(
 ) -> u32
     ensures { WholeBoxPut view.now bounds.now witness.old out.old (lone result out.new) witness.new }
 {
-    exact::bbox::intersects_bbox(view, bounds, witness).put(out)
+    put_verdict(exact::bbox::intersects_bbox(view, bounds, witness), out)
 }

@@ -1,4 +1,5 @@
 -- The ways out of the operation on groups, one for each refusal and one for a result. Assumes nothing.
+use Rattle.std.specs.Prelude.{Ok}
 use mathlib.Core.Path.{◌≡◌, refl, sym, ap, ◌∙◌}
 use mathlib.Core.Bool.{Bool, true, false, not, cond, ◌&&◌}
 use mathlib.Core.List.{List}
@@ -14,7 +15,6 @@ use Rattle.number.specs.Answer.{Reply, refuse, write, reply, unless, has}
 use Rattle.number.specs.Tabulate.{tabulate}
 use Rattle.number.specs.Records.{record_at, records, record_count, records_of, is_whole}
 use Rattle.number.specs.Slice.{stored}
-use Rattle.number.specs.declared.answer.Written.TheVariants.{Done}
 use Rattle.number.proofs.Records.{whole_count}
 use Rattle.verdict.specs.BBox.{box_of, numbers}
 use Rattle.verdict.proofs.Flags.{negated}
@@ -75,7 +75,7 @@ module _ (s out : List Float) where
         no_flag e = by true true true false group (eq-eqb _ _ m) (eq-eqb _ _ r) (sym q ∙ negated z true e)
 
         -- the numbers v are stored into the slice
-        pub written : not z ≡ false → (v x : List Float) → length v ≡ box_length → x ≡ stored v out → v ≡ grouped (records_of box_length s) → reply Done x ≡ group_call s out
+        pub written : not z ≡ false → (v x : List Float) → length v ≡ box_length → x ≡ stored v out → v ≡ grouped (records_of box_length s) → reply (Ok tt) x ≡ group_call s out
         written e v x k d g =
             ap write (d ∙ ap (λ (t : Bool). cond t v out) (eq-eqb _ _ (k ∙ sym r)) ∙ g)
             ∙ by true true true true group (eq-eqb _ _ m) (eq-eqb _ _ r) (sym q ∙ negated z false e)

@@ -3,36 +3,35 @@ ghost use Rattle.std.specs.Prelude.{◌≡◌};
 ghost use Rattle.number.specs.Answer.{reply};
 ghost use Rattle.group.specs.Group.{group_call};
 
-use crate::group;
-use crate::group::MOST_NUMBERS;
-use number::answer::{Refusal, Written};
+use crate::group::{Boxes, MOST_NUMBERS};
+use number::answer::Refusal;
 use number::limits::BOX_LENGTH;
 use number::slice;
 
 // One box that holds those of a group, combined left to right. A single box comes back as it is.
-pub fn combine_group(boxes: &[f64], out: &mut [f64]) -> Written
+pub fn combine_group(boxes: &[f64], out: &mut [f64]) -> Result<(), Refusal>
     ensures { reply result out.new ≡ group_call boxes.now out.old }
 {
     if boxes.len() == 0 {
-        return Written::Refused(Refusal::GroupSize);
+        return Err(Refusal::GroupSize);
     }
     if MOST_NUMBERS < boxes.len() {
-        return Written::Refused(Refusal::GroupSize);
+        return Err(Refusal::GroupSize);
     }
     if boxes.len() % BOX_LENGTH != 0 {
-        return Written::Refused(Refusal::InputLength);
+        return Err(Refusal::InputLength);
     }
     if out.len() != BOX_LENGTH {
-        return Written::Refused(Refusal::OutputLength);
+        return Err(Refusal::OutputLength);
     }
-    let count = boxes.len() / BOX_LENGTH;
-    if !group::all_flagged(boxes, count) {
-        return Written::Refused(Refusal::Kind);
+    let group = Boxes::of(boxes);
+    if !group.all_flagged() {
+        return Err(Refusal::Kind);
     }
-    if count == 1 {
+    if group.count == 1 {
         slice::store(boxes, out);
-        return Written::Done;
+        return Ok(());
     }
-    group::combine(boxes, count).store(out);
-    Written::Done
+    group.combine().store(out);
+    Ok(())
 }

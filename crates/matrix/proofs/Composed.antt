@@ -1,49 +1,21 @@
--- A product of its rows, an inverse of its cofactors and a moved range of its corners, each as the code puts it together. Assumes nothing.
+-- An inverse of its cofactors, a moved range of its corners and a union, each as the code puts it together. Assumes nothing.
+use Rattle.std.specs.Prelude.{None, Option, Some}
 use mathlib.Core.Path.{◌≡◌, refl, ap, ap₂, ◌∙◌}
-use mathlib.Core.Bool.{Bool, true, false}
-use mathlib.Core.List.{List}
-use Prim.Native.Nat.{ℕ, ◌+◌}
+use mathlib.Core.Bool.{Bool, true, false, not, cond}
+use Prim.Native.Nat.{ℕ}
 use lib.Ieee.{Float, nan, inf, fin, lt}
 use Rattle.number.specs.Arithmetic.{◌⊘◌, abs_of, min_of, max_of}
 use Rattle.number.specs.Answer.{unless}
-use Rattle.number.specs.Slice.{at}
+use Rattle.matrix.specs.declared.vec.Vec3d.{Vec3d}
 use Rattle.matrix.specs.declared.vec.Vec4d.{Vec4d}
 use Rattle.matrix.specs.declared.matrix.Mat4d.{Mat4d}
 use Rattle.matrix.specs.declared.range.Range3d.{Range3d}
-use Rattle.matrix.specs.declared.inverse.Inverted.{Inverted}
-use Rattle.matrix.specs.declared.inverse.Inverted.TheVariants.{Matrix, Singular}
-use Rattle.matrix.specs.Vec.{axis4, vec4, dot4}
-use Rattle.matrix.specs.Matrix.{matrix_of, entry, row_times, product}
+use Rattle.matrix.specs.Vec.{axis, vec4, dot4}
+use Rattle.matrix.specs.Matrix.{entry}
 use Rattle.matrix.specs.Constants.{one}
-use Rattle.matrix.specs.Inverse.{cofactors, adjugate, determinant, scaled, over, inverse_above, has_inverse}
+use Rattle.matrix.specs.Inverse.{expanded, three_rows, column_cofactor, adjugate, determinant, scaled, over, inverse_above, has_inverse}
 use Rattle.matrix.specs.Range.{range, is_empty, joined, union, reached, transformed}
-use Rattle.matrix.proofs.Same.{rows, same_matrix}
-
--- ---- a product
-
--- the row i of a matrix, from its numbers
-abbrev row_of : List Float → ℕ → Vec4d
-row_of a n = vec4 (λ i. at a (n + i))
-
--- that row times a matrix
-abbrev through : Mat4d → Vec4d → Vec4d
-through m v = vec4 (row_times (axis4 v) m)
-
-row : (r v w : Vec4d) (m n : Mat4d) → r ≡ through m v → v ≡ w → m ≡ n → r ≡ through n w
-row r v w m n p q e = p ∙ ap₂ through e q
-
-pub product_of_rows : (m n : Mat4d) (r0 r1 r2 r3 : Vec4d) → r0 ≡ through n m.r0 → r1 ≡ through n m.r1 → r2 ≡ through n m.r2 → r3 ≡ through n m.r3
-    → rows r0 r1 r2 r3 ≡ product m n
-unfolding product
-product_of_rows m n r0 r1 r2 r3 p0 p1 p2 p3 = same_matrix p0 p1 p2 p3
-
-module _ (a b : List Float) (m : Mat4d) (e : m ≡ matrix_of b) (v0 v1 v2 v3 r0 r1 r2 r3 : Vec4d) where
-  pub product_rows : v0 ≡ row_of a 0 → v1 ≡ row_of a 4 → v2 ≡ row_of a 8 → v3 ≡ row_of a 12
-      → r0 ≡ through m v0 → r1 ≡ through m v1 → r2 ≡ through m v2 → r3 ≡ through m v3
-      → rows r0 r1 r2 r3 ≡ product (matrix_of a) (matrix_of b)
-  unfolding product
-  product_rows p0 p1 p2 p3 q0 q1 q2 q3 =
-      same_matrix (row r0 v0 _ m _ q0 p0 e) (row r1 v1 _ m _ q1 p1 e) (row r2 v2 _ m _ q2 p2 e) (row r3 v3 _ m _ q3 p3 e)
+use Rattle.matrix.proofs.Same.{xyzw}
 
 -- ---- an inverse
 
@@ -53,12 +25,19 @@ none_above nan = refl
 none_above (inf s) = refl
 none_above (fin s m e) = refl
 
-pub adjugate_rows : (m : Mat4d) (r0 r1 r2 r3 : Vec4d) → r0 ≡ cofactors m 0 → r1 ≡ cofactors m 1 → r2 ≡ cofactors m 2 → r3 ≡ cofactors m 3 → rows r0 r1 r2 r3 ≡ adjugate m
-unfolding adjugate
-adjugate_rows m r0 r1 r2 r3 p0 p1 p2 p3 = same_matrix p0 p1 p2 p3
+-- what is left of the rows of m, where one number of each is left out
+abbrev pub left_of : (Vec4d → Vec3d) → Mat4d → ℕ → ℕ → Float
+left_of rest m r c = axis (rest (vec4 (entry m r))) c
+
+module _ (m : Mat4d) (rest : Vec4d → Vec3d) (r0 r1 r2 r3 : Vec3d) (p0 : r0 ≡ rest m.r0) (p1 : r1 ≡ rest m.r1) (p2 : r2 ≡ rest m.r2) (p3 : r3 ≡ rest m.r3) where
+  pub cofactors_of_rows : (odd : Bool) (x y z w : Float) → x ≡ expanded odd (three_rows r1 r2 r3) → y ≡ expanded (not odd) (three_rows r0 r2 r3)
+      → z ≡ expanded odd (three_rows r0 r1 r3) → w ≡ expanded (not odd) (three_rows r0 r1 r2)
+      → xyzw x y z w ≡ vec4 (column_cofactor (cond odd 1 0) (left_of rest m))
+  cofactors_of_rows true x y z w q s t u = rw (q, s, t, u, p0, p1, p2, p3)
+  cofactors_of_rows false x y z w q s t u = rw (q, s, t, u, p0, p1, p2, p3)
 
 -- a NaN is larger than nothing
-pub no_number : (epsilon d : Float) (i : Mat4d) → d ≡ nan → Singular ≡ over epsilon d i
+pub no_number : (epsilon d : Float) (i : Mat4d) → d ≡ nan → None ≡ over epsilon d i
 unfolding over abs_of
 no_number epsilon d i p = rw (p, none_above epsilon)
 
@@ -66,7 +45,7 @@ no_number epsilon d i p = rw (p, none_above epsilon)
 abbrev first_row_times : Mat4d → Mat4d → Float
 first_row_times m i = dot4 (entry m 0) (λ k. entry i k 0)
 
-module _ (epsilon : Float) (m i : Mat4d) (d : Float) (v : Inverted) (p : i ≡ adjugate m) (q : d ≡ first_row_times m i) where
+module _ (epsilon : Float) (m i : Mat4d) (d : Float) (v : Option Mat4d) (p : i ≡ adjugate m) (q : d ≡ first_row_times m i) where
   by_row : d ≡ determinant m
   unfolding determinant adjugate
   by_row = q ∙ ap (first_row_times m) p
@@ -76,13 +55,13 @@ module _ (epsilon : Float) (m i : Mat4d) (d : Float) (v : Inverted) (p : i ≡ a
   inverse_from r = r ∙ ap₂ (over epsilon) by_row p
 
 -- whether there is one is the test of the determinant
-told : (z : Bool) (x : Mat4d) → z ≡ has_inverse (unless z Singular (Matrix x))
+told : (z : Bool) (x : Mat4d) → z ≡ has_inverse (unless z None (Some x))
 told true x = refl
 told false x = refl
 
 module _ (epsilon : Float) (m i : Mat4d) (d : Float) (p : i ≡ adjugate m) (q : d ≡ first_row_times m i) where
   pub has_none : d ≡ nan → false ≡ has_inverse (inverse_above epsilon m)
-  has_none n = ap has_inverse (inverse_from epsilon m i d Singular p q (no_number epsilon d i n))
+  has_none n = ap has_inverse (inverse_from epsilon m i d None p q (no_number epsilon d i n))
 
   pub has_one : (a : Float) → a ≡ abs_of d → lt epsilon a ≡ has_inverse (inverse_above epsilon m)
   unfolding over

@@ -11,3 +11,4 @@ pub mod EveryOrder
 pub mod Signs
 pub mod Length
 pub mod Worked
+pub mod Given

@@ -14,7 +14,7 @@ use Rattle.matrix.specs.Range.{range}
 abbrev xyz : Float → Float → Float → Vec3d
 xyz x y z = record { x = x; y = y; z = z }
 
-abbrev xyzw : Float → Float → Float → Float → Vec4d
+abbrev pub xyzw : Float → Float → Float → Float → Vec4d
 xyzw x y z w = record { x = x; y = y; z = z; w = w }
 
 pub same_vec3 : {x x' y y' z z' : Float} → x ≡ x' → y ≡ y' → z ≡ z' → xyz x y z ≡ xyz x' y' z'

@@ -1,4 +1,5 @@
 -- Paper 01's "Odd inputs" on vectors, matrices and ranges, computed from the definitions. Assumes nothing.
+use Rattle.std.specs.Prelude.{None, Option, Some}
 use mathlib.Core.Path.{◌≡◌, refl, sym}
 use mathlib.Core.Bool.{Bool, true, false, cond}
 use Prim.Native.Nat.{◌^◌}
@@ -9,8 +10,6 @@ use Rattle.number.specs.Arithmetic.{◌⊘◌, abs_of, min_of, max_of}
 use Rattle.matrix.specs.declared.vec.Vec3d.{Vec3d}
 use Rattle.matrix.specs.declared.matrix.Mat4d.{Mat4d}
 use Rattle.matrix.specs.declared.range.Range3d.{Range3d}
-use Rattle.matrix.specs.declared.inverse.Inverted.{Inverted}
-use Rattle.matrix.specs.declared.inverse.Inverted.TheVariants.{Matrix, Singular}
 use Rattle.matrix.specs.Constants.{rounded, positive_zero, one, min_length}
 use Rattle.matrix.specs.Vec.{vec3, multiple, length_of, normalized}
 use Rattle.matrix.specs.Matrix.{matrix}
@@ -53,9 +52,9 @@ negative_zero_divisor = refl
 abbrev first : Float → Mat4d
 first x = matrix (λ i j. cond (eqb i j) (cond (eqb i 0) x one) positive_zero)
 
-abbrev accepts : Inverted → Bool
-accepts (Matrix m) = true
-accepts Singular = false
+abbrev accepts : Option Mat4d → Bool
+accepts (Some m) = true
+accepts None = false
 
 -- "1e-12 for `inverse`": at the bound it is refused, above it accepted
 at_the_bound : accepts (inverse (first (rounded 1 (10 ^ 12)))) ≡ false
@@ -67,7 +66,7 @@ unfolding inverse_above abs_of add sub mul neg lt round sum units odd size span 
 above_the_bound = refl
 
 -- "A NaN determinant is refused."
-nan_determinant : (epsilon : Float) (m : Mat4d) → determinant m ≡ nan → inverse_above epsilon m ≡ Singular
+nan_determinant : (epsilon : Float) (m : Mat4d) → determinant m ≡ nan → inverse_above epsilon m ≡ None
 unfolding inverse_above
 nan_determinant epsilon m h = sym (no_number epsilon (determinant m) (adjugate m) h)
 

@@ -1,15 +1,14 @@
 -- The inverse of a matrix: its adjugate over its determinant. Definitions only.
-use Rattle.std.specs.Prelude.{ℕ, ◌+◌, ◌%◌, Bool, true, false, not, cond, [], ◌∷◌, eqb, ltb, Float}
+use Rattle.std.specs.Prelude.{ℕ, ◌+◌, ◌%◌, Bool, true, false, not, cond, [], ◌∷◌, eqb, ltb, Float, None, Option, Some}
 use Rattle.std.specs.Float.Ieee.{neg, lt}
 use Rattle.number.specs.Answer.{unless}
 use Rattle.number.specs.Arithmetic.{◌⊕◌, ◌⊖◌, ◌⊗◌, ◌⊘◌, abs_of}
 use Rattle.number.specs.Slice.{at}
+use Rattle.matrix.specs.declared.vec.Vec3d.{Vec3d}
 use Rattle.matrix.specs.declared.vec.Vec4d.{Vec4d}
 use Rattle.matrix.specs.declared.matrix.Mat4d.{Mat4d}
-use Rattle.matrix.specs.declared.inverse.Inverted.{Inverted}
-use Rattle.matrix.specs.declared.inverse.Inverted.TheVariants.{Matrix, Singular}
 use Rattle.matrix.specs.Constants.{one, singular_determinant}
-use Rattle.matrix.specs.Vec.{axis4, vec4, dot4}
+use Rattle.matrix.specs.Vec.{axis, vec4, dot4}
 use Rattle.matrix.specs.Matrix.{entry, matrix}
 
 -- ---- the determinant of three rows of three, e r c at row r and column c
@@ -33,6 +32,10 @@ expanded s e =
     let t5 = signed_sum s t4 (e 2 0 ⊗ e 0 1 ⊗ e 1 2) in
     signed_sum (not s) t5 (e 2 0 ⊗ e 0 2 ⊗ e 1 1)
 
+-- the numbers of three rows
+abbrev pub three_rows : Vec3d → Vec3d → Vec3d → ℕ → ℕ → Float
+three_rows a b c r k = at (axis a k ∷ axis b k ∷ axis c k ∷ []) r
+
 -- ---- cofactors
 
 -- the k-th of the numbers 0, 1, 2, .. without i
@@ -45,10 +48,6 @@ column_cofactor j e i = expanded (eqb ((i + j) % 2) 1) (λ r c. e (skipping i r)
 
 abbrev pub cofactor : Mat4d → ℕ → ℕ → Float
 cofactor m i j = column_cofactor j (λ r c. entry m r (skipping j c)) i
-
--- three columns side by side
-abbrev pub three_columns : Vec4d → Vec4d → Vec4d → ℕ → ℕ → Float
-three_columns p q s r c = at (axis4 p r ∷ axis4 q r ∷ axis4 s r ∷ []) c
 
 -- of a whole column
 abbrev pub cofactors : Mat4d → ℕ → Vec4d
@@ -68,18 +67,18 @@ abbrev pub scaled : Mat4d → Float → Mat4d
 scaled m k = matrix (λ i j. entry m i j ⊗ k)
 
 -- "`inverse_above` accepts only if |det| > epsilon", so that "A NaN determinant is refused"; the adjugate is then multiplied by one rounded reciprocal
-unfoldable pub over : Float → Float → Mat4d → Inverted
-over epsilon det adjugate = unless (lt epsilon (abs_of det)) Singular (Matrix (scaled adjugate (one ⊘ det)))
+unfoldable pub over : Float → Float → Mat4d → Option Mat4d
+over epsilon det adjugate = unless (lt epsilon (abs_of det)) None (Some (scaled adjugate (one ⊘ det)))
 
-unfoldable pub inverse_above : Float → Mat4d → Inverted
+unfoldable pub inverse_above : Float → Mat4d → Option Mat4d
 unfolding determinant adjugate over
 inverse_above epsilon m = over epsilon (determinant m) (adjugate m)
 
 -- there is one
-abbrev pub has_inverse : Inverted → Bool
-has_inverse (Matrix m) = true
-has_inverse Singular = false
+abbrev pub has_inverse : Option Mat4d → Bool
+has_inverse (Some m) = true
+has_inverse None = false
 
 -- "1e-12 for `inverse`"
-abbrev pub inverse : Mat4d → Inverted
+abbrev pub inverse : Mat4d → Option Mat4d
 inverse = inverse_above singular_determinant

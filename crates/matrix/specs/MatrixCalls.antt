@@ -1,11 +1,10 @@
 -- What each operation on matrices over lent slices answers and leaves, by the numbers of the refusals. Definitions only.
 -- "1 means an input slice's length differs from its record. 2 means an output slice's length differs." "Each is given only on its condition, earliest listed first."
-use Rattle.std.specs.Prelude.{Bool, ◌&&◌, List, Float}
+use Rattle.std.specs.Prelude.{Bool, ◌&&◌, List, Float, None, Option, Some}
 use Rattle.number.specs.Limits.{point_length, homogeneous_length, matrix_length}
 use Rattle.number.specs.Answer.{Reply, refuse, write, Outcome, has, leaving, writing, answering}
-use Rattle.matrix.specs.declared.inverse.Inverted.{Inverted}
-use Rattle.matrix.specs.declared.inverse.Inverted.TheVariants.{Matrix, Singular}
 use Rattle.matrix.specs.Vec.{vec3_of, vec4_of, coordinates, coordinates4}
+use Rattle.matrix.specs.declared.matrix.Mat4d.{Mat4d}
 use Rattle.matrix.specs.Matrix.{matrix_of, entries, product, transpose, determinant3, right_handed}
 use Rattle.matrix.specs.Inverse.{inverse}
 use Rattle.matrix.specs.Transform.{direction, affine, transformed as transformed_point, homogeneous}
@@ -17,9 +16,9 @@ unfoldable pub transpose_call : List Float → List Float → Reply Float
 transpose_call m out = writing (has matrix_length m) matrix_length (entries (transpose (matrix_of m))) out
 
 -- "4 is singular"
-abbrev pub inverse_reply : Inverted → List Float → Reply Float
-inverse_reply (Matrix m) out = write (entries m)
-inverse_reply Singular out = refuse 4 out
+abbrev pub inverse_reply : Option Mat4d → List Float → Reply Float
+inverse_reply (Some m) out = write (entries m)
+inverse_reply None out = refuse 4 out
 
 unfoldable pub inverse_call : List Float → List Float → Reply Float
 inverse_call m out = leaving (has matrix_length m) matrix_length (inverse_reply (inverse (matrix_of m)) out) out

@@ -1,99 +1,94 @@
 // The inverse of a matrix by its cofactors.
-ghost use Rattle.std.specs.Prelude.{◌≡◌};
-ghost use Rattle.matrix.specs.Vec.{vec4, dot4};
+ghost use Rattle.std.specs.Prelude.{◌≡◌, cond};
+ghost use Rattle.matrix.specs.Vec.{axis, vec4, dot4};
 ghost use Rattle.matrix.specs.Matrix.{entry};
-ghost use Rattle.matrix.specs.Inverse.{three_columns, column_cofactor, cofactors, adjugate, scaled, over, inverse_above, has_inverse, inverse};
+ghost use Rattle.matrix.specs.Inverse.{three_rows, expanded, column_cofactor, adjugate, scaled, over, inverse_above, has_inverse, inverse};
 
 use crate::matrix::Mat4d;
-use crate::vec::Vec4d;
+use crate::vec::{Vec3d, Vec4d};
 use number::order::abs;
 
 // The size of a determinant up to which a matrix counts as singular.
 pub const SINGULAR_DETERMINANT: f64 = 1e-12;
 
-// The inverse of a matrix, or that it has none.
-#[derive(Clone, Copy)]
-pub enum Inverted {
-    Matrix(Mat4d),
-    Singular,
-}
-
-// The cofactors of a column with an even number, from the other three: row by row, the signs beginning with plus.
-fn cofactors(p: Vec4d, q: Vec4d, s: Vec4d) -> Vec4d
-    ensures { result ≡ vec4 (column_cofactor 0 (three_columns p q s)) }
+// The determinant of three rows of three, expanded down its first column and added from left to right; with every sign turned, if that is asked. This is not the
+// other's opposite bit for bit: a sum that comes to 0 is +0 either way.
+#[inline(always)]
+fn expanded(turned: bool, a: Vec3d, b: Vec3d, c: Vec3d) -> f64
+    ensures { result ≡ expanded turned (three_rows a b c) }
 {
-    Vec4d {
-        x: p.y * q.z * s.w - p.y * s.z * q.w - p.z * q.y * s.w + p.z * s.y * q.w + p.w * q.y * s.z
-            - p.w * s.y * q.z,
-        y: -p.x * q.z * s.w + p.x * s.z * q.w + p.z * q.x * s.w - p.z * s.x * q.w - p.w * q.x * s.z
-            + p.w * s.x * q.z,
-        z: p.x * q.y * s.w - p.x * s.y * q.w - p.y * q.x * s.w + p.y * s.x * q.w + p.w * q.x * s.y
-            - p.w * s.x * q.y,
-        w: -p.x * q.y * s.z + p.x * s.y * q.z + p.y * q.x * s.z - p.y * s.x * q.z - p.z * q.x * s.y
-            + p.z * s.x * q.y,
+    if turned {
+        return -a.x * b.y * c.z + a.x * b.z * c.y + b.x * a.y * c.z
+            - b.x * a.z * c.y
+            - c.x * a.y * b.z
+            + c.x * a.z * b.y;
     }
-}
-
-// The same of a column with an odd number: the signs begin with minus.
-fn turned_cofactors(p: Vec4d, q: Vec4d, s: Vec4d) -> Vec4d
-    ensures { result ≡ vec4 (column_cofactor 1 (three_columns p q s)) }
-{
-    Vec4d {
-        x: -p.y * q.z * s.w + p.y * s.z * q.w + p.z * q.y * s.w - p.z * s.y * q.w - p.w * q.y * s.z
-            + p.w * s.y * q.z,
-        y: p.x * q.z * s.w - p.x * s.z * q.w - p.z * q.x * s.w + p.z * s.x * q.w + p.w * q.x * s.z
-            - p.w * s.x * q.z,
-        z: -p.x * q.y * s.w + p.x * s.y * q.w + p.y * q.x * s.w - p.y * s.x * q.w - p.w * q.x * s.y
-            + p.w * s.x * q.y,
-        w: p.x * q.y * s.z - p.x * s.y * q.z - p.y * q.x * s.z + p.y * s.x * q.z + p.z * q.x * s.y
-            - p.z * s.x * q.y,
-    }
+    a.x * b.y * c.z - a.x * b.z * c.y - b.x * a.y * c.z + b.x * a.z * c.y + c.x * a.y * b.z
+        - c.x * a.z * b.y
 }
 
 impl Mat4d {
-    // The cofactors of each column, which are the rows of the adjugate. They are public, as what follows is, for those who put an inverse together where it is
-    // used: a whole matrix is copied at a call.
-    pub fn cofactors0(self) -> Vec4d
-        ensures { result ≡ cofactors self 0 }
+    // The cofactors of a column, by what the rows hold of the other three. Their signs take turns, from minus on in a column with an odd number.
+    #[inline(always)]
+    fn cofactors<F: Fn(Vec4d) -> Vec3d>(self, odd: bool, others: F) -> Vec4d
+        requires { F.IsAlwaysCallable others }
+        ensures { (rest : Vec4d → Vec3d) → ((v : Vec4d) (r : Vec3d) → F.post others v r → r ≡ rest v) → result ≡ vec4 (column_cofactor (cond odd 1 0) (λ r c. axis (rest (vec4 (entry self r))) c)) }
     {
-        let columns = self.transpose();
-        cofactors(columns.r1, columns.r2, columns.r3)
+        let r0 = others(self.r0);
+        let r1 = others(self.r1);
+        let r2 = others(self.r2);
+        let r3 = others(self.r3);
+        Vec4d {
+            x: expanded(odd, r1, r2, r3),
+            y: expanded(!odd, r0, r2, r3),
+            z: expanded(odd, r0, r1, r3),
+            w: expanded(!odd, r0, r1, r2),
+        }
     }
 
-    pub fn cofactors1(self) -> Vec4d
-        ensures { result ≡ cofactors self 1 }
-    {
-        let columns = self.transpose();
-        turned_cofactors(columns.r0, columns.r2, columns.r3)
-    }
-
-    pub fn cofactors2(self) -> Vec4d
-        ensures { result ≡ cofactors self 2 }
-    {
-        let columns = self.transpose();
-        cofactors(columns.r0, columns.r1, columns.r3)
-    }
-
-    pub fn cofactors3(self) -> Vec4d
-        ensures { result ≡ cofactors self 3 }
-    {
-        let columns = self.transpose();
-        turned_cofactors(columns.r0, columns.r1, columns.r2)
-    }
-
+    // The cofactors of each column, which are the rows of the adjugate.
+    #[inline(always)]
     fn adjugate(self) -> Mat4d
         ensures { result ≡ adjugate self }
     {
         Mat4d {
-            r0: self.cofactors0(),
-            r1: self.cofactors1(),
-            r2: self.cofactors2(),
-            r3: self.cofactors3(),
+            r0: self.cofactors(
+                false,
+                |r: Vec4d| Vec3d {
+                    x: r.y,
+                    y: r.z,
+                    z: r.w,
+                },
+            ),
+            r1: self.cofactors(
+                true,
+                |r: Vec4d| Vec3d {
+                    x: r.x,
+                    y: r.z,
+                    z: r.w,
+                },
+            ),
+            r2: self.cofactors(
+                false,
+                |r: Vec4d| Vec3d {
+                    x: r.x,
+                    y: r.y,
+                    z: r.w,
+                },
+            ),
+            r3: self.cofactors(
+                true,
+                |r: Vec4d| Vec3d {
+                    x: r.x,
+                    y: r.y,
+                    z: r.z,
+                },
+            ),
         }
     }
 
     // The determinant: the first row times its cofactors, which are the first column of the adjugate.
-    pub fn determinant_by(self, adjugate: Mat4d) -> f64
+    fn determinant_by(self, adjugate: Mat4d) -> f64
         ensures { result ≡ dot4 (entry self 0) (λ i. entry adjugate i 0) }
     {
         self.r0.x * adjugate.r0.x
@@ -115,20 +110,22 @@ impl Mat4d {
 
     // An adjugate over its determinant, where that is larger than epsilon in size. The NaN has a test of its own, since
     // the one in `abs` then goes.
-    pub fn over(self, det: f64, epsilon: f64) -> Inverted
+    #[inline(always)]
+    fn over(self, det: f64, epsilon: f64) -> Option<Mat4d>
         ensures { result ≡ over epsilon det self }
     {
-        if det != det {
-            return Inverted::Singular;
+        if det.is_nan() {
+            return None;
         }
         if abs(det) > epsilon {
-            return Inverted::Matrix(self.scaled(1.0 / det));
+            return Some(self.scaled(1.0 / det));
         }
-        Inverted::Singular
+        None
     }
 
-    // The inverse where the determinant is larger than epsilon in size.
-    pub fn inverse_above(self, epsilon: f64) -> Inverted
+    // The inverse where the determinant is larger than epsilon in size. Each place that calls it has its body, since matrices would go to it through memory.
+    #[inline(always)]
+    pub fn inverse_above(self, epsilon: f64) -> Option<Mat4d>
         ensures { result ≡ inverse_above epsilon self }
     {
         let adjugate = self.adjugate();
@@ -140,20 +137,15 @@ impl Mat4d {
     pub fn has_inverse_above(self, epsilon: f64) -> bool
         ensures { result ≡ has_inverse (inverse_above epsilon self) }
     {
-        let adjugate = Mat4d {
-            r0: self.cofactors0(),
-            r1: self.cofactors1(),
-            r2: self.cofactors2(),
-            r3: self.cofactors3(),
-        };
-        let det = self.determinant_by(adjugate);
-        if det != det {
+        let det = self.determinant_by(self.adjugate());
+        if det.is_nan() {
             return false;
         }
         abs(det) > epsilon
     }
 
-    pub fn inverse(self) -> Inverted
+    #[inline(always)]
+    pub fn inverse(self) -> Option<Mat4d>
         ensures { result ≡ inverse self }
     {
         self.inverse_above(SINGULAR_DETERMINANT)

@@ -6,4 +6,5 @@ pub mod matrix;
 pub mod matrix_calls;
 pub mod range;
 pub mod range_calls;
+pub mod record;
 pub mod vec;

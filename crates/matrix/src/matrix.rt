@@ -1,14 +1,14 @@
 // Matrices of four rows and four columns that act on row vectors: a point goes through one as a row from the left, and
 // the last row is the translation. The number at row i and column j is the number i * 4 + j of the record.
-ghost use Rattle.std.specs.Prelude.{◌≡◌, ◌+◌, ◌≤◌};
-ghost use Rattle.matrix.specs.Matrix.{matrix_of, entries, identity, row_times, product, transpose, determinant3, right_handed, translation};
+ghost use Rattle.std.specs.Prelude.{◌≡◌, Float};
+ghost use Rattle.matrix.specs.Matrix.{matrix_of, entries, entry, identity, row_times, product, transpose, determinant3, right_handed, translation};
 ghost use Rattle.matrix.specs.Transform.{direction, affine, divisor, transformed, homogeneous};
-ghost use Rattle.matrix.specs.Vec.{axis4, vec4};
-ghost use Rattle.number.specs.Slice.{at, stored};
+ghost use Rattle.matrix.specs.Vec.{axis4, dot, vec3, vec4};
+ghost use Rattle.number.specs.Arithmetic.{◌⊕◌};
+ghost use Rattle.number.specs.Slice.{stored};
 
 use crate::vec::{Vec3d, Vec4d};
 use number::slice;
-use number::slice::at;
 
 #[derive(Clone, Copy)]
 pub struct Mat4d {
@@ -26,6 +26,14 @@ fn divisor(w: f64) -> f64
         return 1.0;
     }
     w
+}
+
+// What a column makes of a point, as of a homogeneous one whose last number is 1.
+#[inline(always)]
+fn moved(p: Vec3d, column: Vec4d) -> f64
+    ensures { result ≡ dot p (vec3 (axis4 column)) ⊕ column.w }
+{
+    p.x * column.x + p.y * column.y + p.z * column.z + column.w
 }
 
 impl Mat4d {
@@ -56,14 +64,25 @@ impl Mat4d {
         },
     };
 
-    pub fn default() -> Mat4d
-        ensures { result ≡ identity }
+    // A number of each column.
+    #[inline(always)]
+    fn by_columns<F: Fn(Vec4d) -> f64>(self, number: F) -> Vec4d
+        requires { F.IsAlwaysCallable number }
+        ensures { (of : Vec4d → Float) → ((v : Vec4d) (r : Float) → F.post number v r → r ≡ of v) → result ≡ vec4 (λ j. of (vec4 (λ i. entry self i j))) }
     {
-        Mat4d::IDENTITY
+        let columns = self.transpose();
+        Vec4d {
+            x: number(columns.r0),
+            y: number(columns.r1),
+            z: number(columns.r2),
+            w: number(columns.r3),
+        }
     }
 
-    // A row of a product, whose left factor has this row: each sum starts at 0, so that none is -0.
-    pub(crate) fn row_product(self, row: Vec4d) -> Vec4d
+    // A row of a product, whose left factor has this row: each sum starts at 0, so that none is -0. In full: by `by_columns` a product takes 1.1 times as long, and
+    // the clip verdict 1.2 times.
+    #[inline(always)]
+    fn row_product(self, row: Vec4d) -> Vec4d
         ensures { result ≡ vec4 (row_times (axis4 row) self) }
     {
         Vec4d {
@@ -74,7 +93,8 @@ impl Mat4d {
         }
     }
 
-    // Each row of the left factor goes through the right one.
+    // Each row of the left factor goes through the right one. Each place that calls it has its body, since matrices would go to it through memory.
+    #[inline(always)]
     pub fn product(self, other: Mat4d) -> Mat4d
         ensures { result ≡ product self other }
     {
@@ -138,40 +158,31 @@ impl Mat4d {
     pub fn extract_translation(self) -> Vec3d
         ensures { result ≡ translation self }
     {
-        Vec3d {
-            x: self.r3.x,
-            y: self.r3.y,
-            z: self.r3.z,
-        }
+        self.r3.first_three()
     }
 
     pub fn transform_dir(self, v: Vec3d) -> Vec3d
         ensures { result ≡ direction self v }
     {
-        Vec3d {
-            x: v.x * self.r0.x + v.y * self.r1.x + v.z * self.r2.x,
-            y: v.x * self.r0.y + v.y * self.r1.y + v.z * self.r2.y,
-            z: v.x * self.r0.z + v.y * self.r1.z + v.z * self.r2.z,
-        }
+        self.by_columns(|c: Vec4d| v.x * c.x + v.y * c.y + v.z * c.z)
+            .first_three()
     }
 
     pub fn transform_affine(self, p: Vec3d) -> Vec3d
         ensures { result ≡ affine self p }
     {
-        Vec3d {
-            x: p.x * self.r0.x + p.y * self.r1.x + p.z * self.r2.x + self.r3.x,
-            y: p.x * self.r0.y + p.y * self.r1.y + p.z * self.r2.y + self.r3.y,
-            z: p.x * self.r0.z + p.y * self.r1.z + p.z * self.r2.z + self.r3.z,
-        }
+        self.by_columns(|c: Vec4d| moved(p, c)).first_three()
     }
 
+    // The last number goes first, since the others wait for its reciprocal.
     pub fn transform(self, p: Vec3d) -> Vec3d
         ensures { result ≡ transformed self p }
     {
-        let w = p.x * self.r0.w + p.y * self.r1.w + p.z * self.r2.w + self.r3.w;
+        let w = moved(p, self.transpose().r3);
         self.transform_affine(p).scale(1.0 / divisor(w))
     }
 
+    // In full, as a row of a product.
     pub fn transform_homogeneous(self, v: Vec4d) -> Vec4d
         ensures { result ≡ homogeneous self v }
     {
@@ -204,5 +215,13 @@ impl Mat4d {
             self.r2.x, self.r2.y, self.r2.z, self.r2.w, self.r3.x, self.r3.y, self.r3.z, self.r3.w,
         ];
         slice::store(&all, out);
+    }
+}
+
+impl Default for Mat4d {
+    ghost is_default = { λ m. m ≡ identity };
+
+    fn default() -> Mat4d {
+        Mat4d::IDENTITY
     }
 }

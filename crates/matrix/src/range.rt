@@ -1,10 +1,10 @@
 // Boxes along the axes, each from a least to a greatest corner.
-ghost use Rattle.std.specs.Prelude.{◌≡◌, cond, ◌&&◌};
+ghost use Rattle.std.specs.Prelude.{◌≡◌, cond, ◌&&◌, Float};
 ghost use Rattle.matrix.specs.Vec.{axis4, vec3};
 ghost use Rattle.matrix.specs.Range.{range, range_of, bounds, empty, is_empty, joined, union, intersection, size, midpoint, span_distance_squared, distance_squared, reach, reached, transformed, corner, corners};
 ghost use Rattle.matrix.specs.Matrix.{product};
 ghost use Rattle.matrix.specs.Steps.{NumbersAlong, both_numbers, all_numbers, all_ordered, Settling};
-ghost use Rattle.number.specs.Arithmetic.{lower_of, upper_of, min_of, max_of};
+ghost use Rattle.number.specs.Arithmetic.{min_of, max_of};
 ghost use Rattle.number.specs.Slice.{stored};
 
 use crate::matrix::Mat4d;
@@ -71,12 +71,6 @@ impl Range3d {
         Range3d { min, max }
     }
 
-    pub fn default() -> Range3d
-        ensures { result ≡ empty }
-    {
-        Range3d::EMPTY
-    }
-
     pub fn is_empty(self) -> bool
         ensures { result ≡ is_empty self }
     {
@@ -129,7 +123,7 @@ impl Range3d {
     }
 
     // The union of two ranges that are not empty, with a NaN passed over and the sign of a zero.
-    pub(crate) fn joined(self, other: Range3d) -> Range3d
+    fn joined(self, other: Range3d) -> Range3d
         ensures { result ≡ joined self other }
     {
         Range3d {
@@ -207,71 +201,36 @@ impl Range3d {
             + span_distance_squared(p.z, self.min.z, self.max.z)
     }
 
-    // The least that the range comes to along an axis, whose column of a matrix is given, the translation its last number: with a NaN passed over and the
-    // sign of a zero.
-    fn lowest_signed(self, column: Vec4d) -> f64
-        ensures { result ≡ reach min_of self (vec3 (axis4 column)) (axis4 column 3) }
+    // What the range comes to along an axis, whose column of a matrix is given, the translation its last number: each axis of the range adds what is picked of
+    // its two products.
+    #[inline(always)]
+    fn reach<F: Fn(f64, f64) -> f64>(self, column: Vec4d, pick: F) -> f64
+        requires { F.IsAlwaysCallable pick }
+        ensures { (choice : Float → Float → Float) → ((x y r : Float) → F.post pick x y r → r ≡ choice x y) → result ≡ reach choice self (vec3 (axis4 column)) (axis4 column 3) }
     {
         column.w
-            + order::min(self.min.x * column.x, self.max.x * column.x)
-            + order::min(self.min.y * column.y, self.max.y * column.y)
-            + order::min(self.min.z * column.z, self.max.z * column.z)
+            + pick(self.min.x * column.x, self.max.x * column.x)
+            + pick(self.min.y * column.y, self.max.y * column.y)
+            + pick(self.min.z * column.z, self.max.z * column.z)
     }
 
-    fn highest_signed(self, column: Vec4d) -> f64
-        ensures { result ≡ reach max_of self (vec3 (axis4 column)) (axis4 column 3) }
-    {
-        column.w
-            + order::max(self.min.x * column.x, self.max.x * column.x)
-            + order::max(self.min.y * column.y, self.max.y * column.y)
-            + order::max(self.min.z * column.z, self.max.z * column.z)
-    }
-
-    // The same by one comparison for each choice.
-    fn lowest(self, column: Vec4d) -> f64
-        ensures { result ≡ reach lower_of self (vec3 (axis4 column)) (axis4 column 3) }
-    {
-        column.w
-            + order::lower(self.min.x * column.x, self.max.x * column.x)
-            + order::lower(self.min.y * column.y, self.max.y * column.y)
-            + order::lower(self.min.z * column.z, self.max.z * column.z)
-    }
-
-    fn highest(self, column: Vec4d) -> f64
-        ensures { result ≡ reach upper_of self (vec3 (axis4 column)) (axis4 column 3) }
-    {
-        column.w
-            + order::upper(self.min.x * column.x, self.max.x * column.x)
-            + order::upper(self.min.y * column.y, self.max.y * column.y)
-            + order::upper(self.min.z * column.z, self.max.z * column.z)
-    }
-
-    // The corners of this range moved by the matrix, by one comparison for each choice.
-    pub(crate) fn transformed_min(self, matrix: Mat4d) -> Vec3d
-        ensures { result ≡ reached lower_of self matrix }
+    // The same along each axis: a corner of this range moved by the matrix.
+    #[inline(always)]
+    fn reached<F: Fn(f64, f64) -> f64 + Copy>(self, matrix: Mat4d, pick: F) -> Vec3d
+        requires { F.IsAlwaysCallable pick }
+        ensures { (choice : Float → Float → Float) → ((x y r : Float) → F.post pick x y r → r ≡ choice x y) → result ≡ reached choice self matrix }
     {
         let columns = matrix.transpose();
         Vec3d {
-            x: self.lowest(columns.r0),
-            y: self.lowest(columns.r1),
-            z: self.lowest(columns.r2),
-        }
-    }
-
-    pub(crate) fn transformed_max(self, matrix: Mat4d) -> Vec3d
-        ensures { result ≡ reached upper_of self matrix }
-    {
-        let columns = matrix.transpose();
-        Vec3d {
-            x: self.highest(columns.r0),
-            y: self.highest(columns.r1),
-            z: self.highest(columns.r2),
+            x: self.reach(columns.r0, pick),
+            y: self.reach(columns.r1, pick),
+            z: self.reach(columns.r2, pick),
         }
     }
 
     // Whether the corners so found are those with a NaN passed over and the sign of a zero: none of their numbers is a NaN, and no number of the translation, from
     // which the sums start, is -0. A zero that is added to any other number leaves no sign.
-    pub(crate) fn is_settled(self, translation: Vec3d) -> bool
+    fn is_settled(self, translation: Vec3d) -> bool
         ensures { Settling result self translation }
     {
         if !(are_numbers(self.min.x, self.max.x)
@@ -284,25 +243,18 @@ impl Range3d {
     }
 
     // The range with those corners, with a NaN passed over and the sign of a zero.
-    pub(crate) fn transformed_signed(self, matrix: Mat4d) -> Range3d
+    fn transformed_signed(self, matrix: Mat4d) -> Range3d
         ensures { result ≡ range (reached min_of self matrix) (reached max_of self matrix) }
     {
-        let columns = matrix.transpose();
         Range3d {
-            min: Vec3d {
-                x: self.lowest_signed(columns.r0),
-                y: self.lowest_signed(columns.r1),
-                z: self.lowest_signed(columns.r2),
-            },
-            max: Vec3d {
-                x: self.highest_signed(columns.r0),
-                y: self.highest_signed(columns.r1),
-                z: self.highest_signed(columns.r2),
-            },
+            min: self.reached(matrix, order::min),
+            max: self.reached(matrix, order::max),
         }
     }
 
-    // Moved by the matrix: its least and greatest along each axis.
+    // Moved by the matrix: its least and greatest along each axis, by one comparison for each choice where that settles them. Each place that calls it has its
+    // body, since range and matrix would go to it through memory.
+    #[inline(always)]
     pub fn transformed(self, matrix: Mat4d) -> Range3d
         ensures { result ≡ transformed self matrix }
     {
@@ -310,8 +262,8 @@ impl Range3d {
             return self;
         }
         let found = Range3d {
-            min: self.transformed_min(matrix),
-            max: self.transformed_max(matrix),
+            min: self.reached(matrix, order::lower),
+            max: self.reached(matrix, order::upper),
         };
         if found.is_settled(matrix.extract_translation()) {
             return found;
@@ -319,7 +271,7 @@ impl Range3d {
         self.transformed_signed(matrix)
     }
 
-    // The same without the way by one comparison, for what is seldom asked: `transformed` has one caller then, into which the compiler puts it.
+    // The same without the way by one comparison, for what is seldom asked: that way would be code at each place.
     pub fn transformed_seldom(self, matrix: Mat4d) -> Range3d
         ensures { result ≡ transformed self matrix }
     {
@@ -330,26 +282,11 @@ impl Range3d {
     }
 
     // The same of a product of two matrices, of which only what the range needs is computed.
+    #[inline(always)]
     pub fn transformed_by_product(self, left: Mat4d, right: Mat4d) -> Range3d
         ensures { result ≡ transformed self (product left right) }
     {
-        if self.is_empty() {
-            return self;
-        }
-        let matrix = Mat4d {
-            r0: right.row_product(left.r0),
-            r1: right.row_product(left.r1),
-            r2: right.row_product(left.r2),
-            r3: right.row_product(left.r3),
-        };
-        let found = Range3d {
-            min: self.transformed_min(matrix),
-            max: self.transformed_max(matrix),
-        };
-        if found.is_settled(matrix.extract_translation()) {
-            return found;
-        }
-        self.transformed_signed(matrix)
+        self.transformed(left.product(right))
     }
 
     // The union of this range and another, moved by a product of two matrices.
@@ -413,5 +350,13 @@ impl Range3d {
             max.y,
         ];
         slice::store_at(&others, out, 0);
+    }
+}
+
+impl Default for Range3d {
+    ghost is_default = { λ r. r ≡ empty };
+
+    fn default() -> Range3d {
+        Range3d::EMPTY
     }
 }

@@ -1,6 +1,6 @@
 // Row vectors of three numbers, and of four where a point is homogeneous.
 ghost use Rattle.std.specs.Prelude.{◌≡◌, ◌+◌};
-ghost use Rattle.matrix.specs.Vec.{sum, difference, multiple, multiple4, dot, cross, length_of, unit, normalized, least, greatest, vec3, vec4, vec3_of, vec4_of, coordinates, coordinates4};
+ghost use Rattle.matrix.specs.Vec.{sum, difference, multiple, multiple4, dot, cross, length_of, unit, normalized, least, greatest, vec3, vec4, vec3_of, vec4_of, axis4, coordinates, coordinates4};
 ghost use Rattle.matrix.specs.Steps.{Numbers, NumbersAlong, no_negative_zeros, VecValues};
 ghost use Rattle.number.specs.Arithmetic.{min_of, max_of};
 ghost use Rattle.number.specs.Slice.{at, stored};
@@ -13,6 +13,8 @@ use number::{order, slice};
 // A shorter vector is normalized as if it had this length.
 pub const MIN_VECTOR_LENGTH: f64 = 1e-10;
 
+// Of three numbers and of four there is a type each, with its own reading, storing and scaling: x, y, z and w say more than the places of an array would, and
+// there are no other lengths.
 #[derive(Clone, Copy)]
 pub struct Vec3d {
     pub x: f64,
@@ -45,24 +47,29 @@ fn greater(x: f64, y: f64) -> f64
 }
 
 impl Vec3d {
+    // What is made of the two numbers along each axis.
+    #[inline(always)]
+    fn along<F: Fn(f64, f64) -> f64>(self, other: Vec3d, number: F) -> Vec3d
+        requires { F.pre number self.x other.x × F.pre number self.y other.y × F.pre number self.z other.z }
+        ensures { F.post number self.x other.x result.x × F.post number self.y other.y result.y × F.post number self.z other.z result.z }
+    {
+        Vec3d {
+            x: number(self.x, other.x),
+            y: number(self.y, other.y),
+            z: number(self.z, other.z),
+        }
+    }
+
     pub fn add(self, other: Vec3d) -> Vec3d
         ensures { result ≡ sum self other }
     {
-        Vec3d {
-            x: self.x + other.x,
-            y: self.y + other.y,
-            z: self.z + other.z,
-        }
+        self.along(other, |x, y| x + y)
     }
 
     pub fn sub(self, other: Vec3d) -> Vec3d
         ensures { result ≡ difference self other }
     {
-        Vec3d {
-            x: self.x - other.x,
-            y: self.y - other.y,
-            z: self.z - other.z,
-        }
+        self.along(other, |x, y| x - y)
     }
 
     pub fn scale(self, factor: f64) -> Vec3d
@@ -95,45 +102,29 @@ impl Vec3d {
     pub fn min(self, other: Vec3d) -> Vec3d
         ensures { result ≡ least self other }
     {
-        Vec3d {
-            x: order::min(self.x, other.x),
-            y: order::min(self.y, other.y),
-            z: order::min(self.z, other.z),
-        }
+        self.along(other, order::min)
     }
 
     // The larger number along each axis.
     pub fn max(self, other: Vec3d) -> Vec3d
         ensures { result ≡ greatest self other }
     {
-        Vec3d {
-            x: order::max(self.x, other.x),
-            y: order::max(self.y, other.y),
-            z: order::max(self.z, other.z),
-        }
+        self.along(other, order::max)
     }
 
-    // The same of vectors without a NaN.
+    // The same of vectors without a NaN. That is asked at each call and held by no type, since one test tells it of the four corners of two ranges at once.
     pub(crate) fn lesser(self, other: Vec3d) -> Vec3d
         requires { NumbersAlong self other }
         ensures { result ≡ least self other }
     {
-        Vec3d {
-            x: lesser(self.x, other.x),
-            y: lesser(self.y, other.y),
-            z: lesser(self.z, other.z),
-        }
+        self.along(other, lesser)
     }
 
     pub(crate) fn greater(self, other: Vec3d) -> Vec3d
         requires { NumbersAlong self other }
         ensures { result ≡ greatest self other }
     {
-        Vec3d {
-            x: greater(self.x, other.x),
-            y: greater(self.y, other.y),
-            z: greater(self.z, other.z),
-        }
+        self.along(other, greater)
     }
 
     // Whether none of its numbers is -0.
@@ -164,7 +155,7 @@ impl Vec3d {
         self.unit(self.length())
     }
 
-    // Three numbers of a slice, the first of them at a place.
+    // Three numbers of a slice, the first of them at a place. That is a u32, so that no place after it is past a usize.
     pub fn load_at(s: &[f64], from: u32) -> Vec3d
         ensures { result ≡ vec3 (λ i. at s.now (from + i)) }
     {
@@ -200,6 +191,17 @@ impl Vec4d {
             y: self.y * factor,
             z: self.z * factor,
             w: self.w * factor,
+        }
+    }
+
+    // The first three of its numbers.
+    pub(crate) fn first_three(self) -> Vec3d
+        ensures { result ≡ vec3 (axis4 self) }
+    {
+        Vec3d {
+            x: self.x,
+            y: self.y,
+            z: self.z,
         }
     }
 

@@ -1,5 +1,6 @@
 -- A search from place to place for the least that passes a test, the first on a tie: what is known once the places below i are passed, and what is found
 -- at the end. The order is any that is one_way and in which what is not before another that passes is not before what that is not before. Assumes nothing.
+use Rattle.std.specs.Prelude.{None, Option, Some, ℕ}
 use mathlib.Core.Path.{◌≡◌, refl, sym, ap, ◌∙◌, subst}
 use mathlib.Core.Bool.{Bool, true, false, not, ◌&&◌}
 use mathlib.Core.Logic.{◌⊎◌, inl, inr}
@@ -7,7 +8,6 @@ use Prim.Native.Nat.{ℕ, zero, suc, ◌+◌, ◌<◌}
 use native.Mathlib.Numerals.{add-one}
 use native.Mathlib.Omega.{arith}
 use Rattle.number.specs.Every.{every_below}
-use Rattle.number.specs.Answer.{Found, nowhere, found}
 use Rattle.number.specs.Places.{places_below, first_of}
 use Rattle.number.proofs.PlacesBelow.{below_or_last, none_pass, first_passes}
 
@@ -46,9 +46,9 @@ module _ (test : ℕ → Bool) (nearer : ℕ → ℕ → Bool) where
     pub least : (j : ℕ) → j < i → test j ≡ true → nearer j b ≡ false
     pub first : (j : ℕ) → j < b → test j ≡ true → nearer b j ≡ true
 
-  abbrev pub Searched : ℕ → Found → Type 0
-  Searched i nowhere = (j : ℕ) → j < i → test j ≡ false
-  Searched i (found b) = Best i b
+  abbrev pub Searched : ℕ → Option ℕ → Type 0
+  Searched i None = (j : ℕ) → j < i → test j ≡ false
+  Searched i (Some b) = Best i b
 
   module _ (one_way : (i j : ℕ) → nearer i j ≡ true → nearer j i ≡ false)
       (through : (i j k : ℕ) → test j ≡ true → nearer i j ≡ false → nearer j k ≡ false → nearer i k ≡ false) where
@@ -62,13 +62,13 @@ module _ (test : ℕ → Bool) (nearer : ℕ → ℕ → Bool) where
 
     -- ---- one place more
 
-    pub skipped : (i : ℕ) (f : Found) → Searched i f → test i ≡ false → Searched (i + 1) f
-    skipped i nowhere s h = λ j l. at_last j l (below_or_last j i (omega arith))
+    pub skipped : (i : ℕ) (f : Option ℕ) → Searched i f → test i ≡ false → Searched (i + 1) f
+    skipped i None s h = λ j l. at_last j l (below_or_last j i (omega arith))
       where
         at_last : (j : ℕ) → j < i + 1 → ((j < i) ⊎ (j ≡ i)) → test j ≡ false
         at_last j l (inl k) = s j k
         at_last j l (inr e) = subst (λ (k : ℕ). test k ≡ false) (sym e) h
-    skipped i (found b) s h = record {
+    skipped i (Some b) s h = record {
       passed = let k = s.passed in omega arith;
       passes = s.passes;
       least = λ j l t. at_last j t (below_or_last j i (omega arith));
@@ -79,7 +79,7 @@ module _ (test : ℕ → Bool) (nearer : ℕ → ℕ → Bool) where
         at_last j t (inl k) = s.least j k t
         at_last j t (inr e) = absurd (clash (sym t ∙ subst (λ (k : ℕ). test k ≡ false) (sym e) h))
 
-    pub begun : (i : ℕ) → Searched i nowhere → test i ≡ true → Searched (i + 1) (found i)
+    pub begun : (i : ℕ) → Searched i None → test i ≡ true → Searched (i + 1) (Some i)
     begun i s h = record {
       passed = omega arith;
       passes = h;
@@ -91,7 +91,7 @@ module _ (test : ℕ → Bool) (nearer : ℕ → ℕ → Bool) where
         at_last j t (inl k) = absurd (clash (sym t ∙ s j k))
         at_last j t (inr e) = subst (λ (k : ℕ). nearer k i ≡ false) (sym e) (itself i)
 
-    pub kept : (i b : ℕ) → Searched i (found b) → nearer i b ≡ false → Searched (i + 1) (found b)
+    pub kept : (i b : ℕ) → Searched i (Some b) → nearer i b ≡ false → Searched (i + 1) (Some b)
     kept i b s h = record {
       passed = let k = s.passed in omega arith;
       passes = s.passes;
@@ -103,7 +103,7 @@ module _ (test : ℕ → Bool) (nearer : ℕ → ℕ → Bool) where
         at_last j t (inl k) = s.least j k t
         at_last j t (inr e) = subst (λ (k : ℕ). nearer k b ≡ false) (sym e) h
 
-    pub moved : (i b : ℕ) → Searched i (found b) → test i ≡ true → nearer i b ≡ true → Searched (i + 1) (found i)
+    pub moved : (i b : ℕ) → Searched i (Some b) → test i ≡ true → nearer i b ≡ true → Searched (i + 1) (Some i)
     moved i b s h n = record {
       passed = omega arith;
       passes = h;
@@ -121,9 +121,9 @@ module _ (test : ℕ → Bool) (nearer : ℕ → ℕ → Bool) where
 
     -- ---- at the end
 
-    pub finds : (n : ℕ) (f : Found) → Searched n f → first_of (places_below n (is_least n)) ≡ f
-    finds n nowhere s = ap first_of (none_pass n (is_least n) (λ i l. ap (λ (b : Bool). b && every_below n (λ j. not (test j && nearer j i))) (s i l)))
-    finds n (found b) s = first_passes n (is_least n) b s.passed (λ i. s.passes i && nearest i) before
+    pub finds : (n : ℕ) (f : Option ℕ) → Searched n f → first_of (places_below n (is_least n)) ≡ f
+    finds n None s = ap first_of (none_pass n (is_least n) (λ i l. ap (λ (b : Bool). b && every_below n (λ j. not (test j && nearer j i))) (s i l)))
+    finds n (Some b) s = first_passes n (is_least n) b s.passed (λ i. s.passes i && nearest i) before
       where
         is_not : (j : ℕ) → j < n → (t : Bool) → test j ≡ t → not (t && nearer j b) ≡ true
         is_not j l true e = ap not (s.least j l e)
@@ -141,22 +141,22 @@ module _ (test : ℕ → Bool) (nearer : ℕ → ℕ → Bool) where
 
     -- ---- the search ends with one or nowhere, so that what is found is known
 
-    record Some (n : ℕ) : Type 0 where
-      place : Found
+    record Ended (n : ℕ) : Type 0 where
+      place : Option ℕ
       searched : Searched n place
 
-    one_more : (n : ℕ) (f : Found) → Searched n f → (t : Bool) → test n ≡ t → Some (n + 1)
+    one_more : (n : ℕ) (f : Option ℕ) → Searched n f → (t : Bool) → test n ≡ t → Ended (n + 1)
     one_more n f s false e = record { place = f; searched = skipped n f s e }
-    one_more n nowhere s true e = record { place = found n; searched = begun n s e }
-    one_more n (found b) s true e = go (nearer n b) refl
+    one_more n None s true e = record { place = Some n; searched = begun n s e }
+    one_more n (Some b) s true e = go (nearer n b) refl
       where
-        go : (t : Bool) → nearer n b ≡ t → Some (n + 1)
-        go true h = record { place = found n; searched = moved n b s e h }
-        go false h = record { place = found b; searched = kept n b s h }
+        go : (t : Bool) → nearer n b ≡ t → Ended (n + 1)
+        go true h = record { place = Some n; searched = moved n b s e h }
+        go false h = record { place = Some b; searched = kept n b s h }
 
-    some : (n : ℕ) → Some n
-    some zero = record { place = nowhere; searched = λ j l. absurd (omega arith) }
-    some (suc n) = let r = some n in subst Some (add-one n) (one_more n r.place r.searched (test n) refl)
+    ended : (n : ℕ) → Ended n
+    ended zero = record { place = None; searched = λ j l. absurd (omega arith) }
+    ended (suc n) = let r = ended n in subst Ended (add-one n) (one_more n r.place r.searched (test n) refl)
 
     pub searched : (n : ℕ) → Searched n (first_of (places_below n (is_least n)))
-    searched n = let r = some n in subst (Searched n) (sym (finds n r.place r.searched)) r.searched
+    searched n = let r = ended n in subst (Searched n) (sym (finds n r.place r.searched)) r.searched

@@ -5,4 +5,3 @@ pub mod First
 pub mod Distances
 pub mod Steps
 pub mod Meaning
-pub mod Calls

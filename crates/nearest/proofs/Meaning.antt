@@ -1,4 +1,5 @@
 -- What the answers mean (`specs/Meaning.antt`): by the search for the least, and by induction over the places below a limit. Assumes nothing.
+use Rattle.std.specs.Prelude.{None, Option, Some, ℕ}
 use mathlib.Core.Path.{◌≡◌, refl, sym, subst}
 use mathlib.Core.Bool.{Bool, true, false, cond}
 use mathlib.Core.Logic.{◌⊎◌, inl, inr}
@@ -11,7 +12,6 @@ use lib.Ieee.{Float, lt}
 use lib.Ieee.Bits.{is_true}
 use Rattle.number.proofs.Comparisons.{refuted, lt_not_le, not_less}
 use Rattle.matrix.specs.declared.vec.Vec3d.{Vec3d}
-use Rattle.number.specs.Answer.{Found, nowhere, found}
 use Rattle.number.specs.Places.{places_below}
 use Rattle.nearest.specs.Nearest.{range_count, distance_at, is_candidate, is_nearer, is_nearest, is_within, nearest_of, places_within}
 use Rattle.nearest.specs.Meaning.{IsNearest, NearestMeans, NoneMeans, Rising, WithinMeans}
@@ -29,7 +29,7 @@ module _ (s : List Float) (p : Vec3d) where
   unfolding nearest_of is_nearest
   known = searched (is_candidate s p) (is_nearer s p) (one_way s p) (through s p) (range_count s)
 
-  is_found : (f : Found) → Searched (is_candidate s p) (is_nearer s p) (range_count s) f → nearest_of s p ≡ f
+  is_found : (f : Option ℕ) → Searched (is_candidate s p) (is_nearer s p) (range_count s) f → nearest_of s p ≡ f
   unfolding nearest_of is_nearest
   is_found f h = finds (is_candidate s p) (is_nearer s p) (one_way s p) (through s p) (range_count s) f h
 
@@ -54,13 +54,13 @@ module _ (s : List Float) (p : Vec3d) where
 pub nearest_means : NearestMeans
 nearest_means s p i = (
   λ e. told s p i (subst (Searched (is_candidate s p) (is_nearer s p) (range_count s)) e (known s p)),
-  λ n. is_found s p (found i) (best s p i n),
+  λ n. is_found s p (Some i) (best s p i n),
 )
 
 pub none_means : NoneMeans
 none_means s p = (
   λ e i l t. absurd (subst T (subst (Searched (is_candidate s p) (is_nearer s p) (range_count s)) e (known s p) i l) t),
-  λ h. is_found s p nowhere (λ i l. refuted (is_candidate s p i) (h i l)),
+  λ h. is_found s p None (λ i l. refuted (is_candidate s p i) (h i l)),
 )
 
 -- ---- those within a distance

@@ -1,9 +1,8 @@
 -- What the answers of this crate mean. Statements; proofs/Meaning proves them. `T b` says that the test b holds, and `A ↔ B` that A holds exactly where B does.
-use Rattle.std.specs.Prelude.{◌≡◌, ◌↔◌, ℕ, ◌<◌, T, length, Float}
+use Rattle.std.specs.Prelude.{◌≡◌, ◌↔◌, ℕ, ◌<◌, T, length, Float, None, Some}
 use mathlib.Core.List.{List, [], ◌∷◌, Memᴰ}
 use Rattle.std.specs.Float.Ieee.{lt, le}
 use Rattle.matrix.specs.declared.vec.Vec3d.{Vec3d}
-use Rattle.number.specs.Answer.{nowhere, found}
 use Rattle.number.specs.Places.{count_below}
 use Rattle.nearest.specs.Nearest.{range_count, distance_at, is_candidate, is_within, nearest_of, places_within}
 
@@ -17,11 +16,11 @@ pub record IsNearest (s : List Float) (p : Vec3d) (i : ℕ) : Type 0 where
   pub earlier_further : (j : ℕ) → j < i → T (is_candidate s p j) → T (lt (distance_at s p i) (distance_at s p j))
 
 abbrev pub NearestMeans : Type 0
-NearestMeans = (s : List Float) (p : Vec3d) (i : ℕ) → (nearest_of s p ≡ found i) ↔ IsNearest s p i
+NearestMeans = (s : List Float) (p : Vec3d) (i : ℕ) → (nearest_of s p ≡ Some i) ↔ IsNearest s p i
 
 -- "If none is left return none."
 abbrev pub NoneMeans : Type 0
-NoneMeans = (s : List Float) (p : Vec3d) → (nearest_of s p ≡ nowhere) ↔ ((i : ℕ) → i < range_count s → T (is_candidate s p i) → ⊥)
+NoneMeans = (s : List Float) (p : Vec3d) → (nearest_of s p ≡ None) ↔ ((i : ℕ) → i < range_count s → T (is_candidate s p i) → ⊥)
 
 -- ---- those within a distance
 

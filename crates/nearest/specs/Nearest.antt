@@ -1,7 +1,7 @@
 -- The nearest block: "A grower reporting hail gives a point, and the desk wants the nearest block." Several ranges stand in one slice, and a
 -- place counts them from 0. Distances are squared, as `distance_squared` gives them: a NaN coordinate of the point is on neither side of a range and adds nothing.
 -- Definitions only.
-use Rattle.std.specs.Prelude.{ℕ, ◌+◌, ◌*◌, Bool, not, ◌&&◌, List, leb, length, Float}
+use Rattle.std.specs.Prelude.{ℕ, ◌+◌, ◌*◌, Bool, not, ◌&&◌, List, leb, length, Float, Option}
 use Rattle.std.specs.Float.Ieee.{lt, le, is_nan}
 use Rattle.number.specs.Every.{every_below}
 use Rattle.number.specs.Limits.{range_length}
@@ -11,7 +11,6 @@ use Rattle.matrix.specs.Vec.{vec3}
 use Rattle.matrix.specs.Range.{range, is_empty, distance_squared}
 use Rattle.matrix.specs.declared.vec.Vec3d.{Vec3d}
 use Rattle.matrix.specs.declared.range.Range3d.{Range3d}
-use Rattle.number.specs.Answer.{Found}
 use Rattle.number.specs.Places.{places_below, first_of}
 
 -- ---- the ranges of a slice
@@ -49,7 +48,7 @@ unfolding every_below
 is_nearest s p n i = is_candidate s p i && every_below n (λ j. not (is_candidate s p j && is_nearer s p j i))
 
 -- "the place with least `distance_squared`, the first on a tie [..]. If none is left return none."
-unfoldable pub nearest_of : List Float → Vec3d → Found
+unfoldable pub nearest_of : List Float → Vec3d → Option ℕ
 unfolding places_below
 nearest_of s p = let n = range_count s in first_of (places_below n (is_nearest s p n))
 

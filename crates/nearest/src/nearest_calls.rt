@@ -1,45 +1,36 @@
 // The nearest range and those within a distance, over lent slices.
 ghost use Rattle.std.specs.Prelude.{◌≡◌};
-ghost use Rattle.number.specs.Answer.{place_of, counted_of};
+ghost use Rattle.number.specs.Answer.{outcome_of};
 ghost use Rattle.nearest.specs.Calls.{nearest_call, listing, within_call};
 
-use crate::nearest::{are_ranges, list, search};
+use crate::nearest::Ranges;
 use matrix::vec::Vec3d;
-use number::answer::{Counted, Place, Refusal};
-use number::limits::{POINT_LENGTH, RANGE_LENGTH};
-use number::slots::UNUSED;
+use number::answer::Refusal;
+use number::limits::POINT_LENGTH;
 
 // The place of the range that is nearest to a point, the first of those as near.
-pub fn nearest(ranges: &[f64], p: &[f64]) -> Place
-    ensures { place_of result ≡ nearest_call ranges.now p.now }
+#[tactic(auto, unfolding(crate::specs::Calls::nearest_call, number::specs::Answer::answering))]
+pub fn nearest(ranges: &[f64], p: &[f64]) -> Result<Option<u32>, Refusal>
+    ensures { outcome_of result ≡ nearest_call ranges.now p.now }
 {
-    if !are_ranges(ranges) {
-        return Place::Refused(Refusal::InputLength);
-    }
+    let ranges = Ranges::of(ranges).ok_or(Refusal::InputLength)?;
     if p.len() != POINT_LENGTH {
-        return Place::Refused(Refusal::InputLength);
+        return Err(Refusal::InputLength);
     }
-    let count = ranges.len() / RANGE_LENGTH;
-    let place = search(ranges, count as u32, Vec3d::load(p));
-    if place == UNUSED {
-        return Place::Nowhere;
-    }
-    Place::At(place)
+    Ok(ranges.nearest(Vec3d::load(p)))
 }
 
 // The places of the ranges within a squared distance of a point, rising, to the front of the slots; answers how many they are.
-pub fn within(ranges: &[f64], p: &[f64], limit: f64, out: &mut [u32]) -> Counted
-    ensures { listing (counted_of result) out.new ≡ within_call ranges.now p.now limit out.old }
+#[tactic(auto, unfolding(crate::specs::Calls::within_call))]
+pub fn within(ranges: &[f64], p: &[f64], limit: f64, out: &mut [u32]) -> Result<u32, Refusal>
+    ensures { listing (outcome_of result) out.new ≡ within_call ranges.now p.now limit out.old }
 {
-    if !are_ranges(ranges) {
-        return Counted::Refused(Refusal::InputLength);
-    }
+    let ranges = Ranges::of(ranges).ok_or(Refusal::InputLength)?;
     if p.len() != POINT_LENGTH {
-        return Counted::Refused(Refusal::InputLength);
+        return Err(Refusal::InputLength);
     }
-    let count = ranges.len() / RANGE_LENGTH;
-    if out.len() != count {
-        return Counted::Refused(Refusal::OutputLength);
+    if out.len() != ranges.count() as usize {
+        return Err(Refusal::OutputLength);
     }
-    Counted::Count(list(ranges, count as u32, Vec3d::load(p), limit, out))
+    Ok(ranges.list(Vec3d::load(p), limit, out))
 }

@@ -1,6 +1,6 @@
 -- The grid's coordinate of a number, by how many smallest values it is: the rounding sees only the value of its fraction.
 -- A number from 2 ^ 17 on is off the grid, and one below a half is 0. Assumes nothing.
-use Rattle.std.proofs.Common.{◌≡◌, ℕ, zero, suc, ◌+◌, ◌*◌, ◌/◌, ◌%◌, ◌^◌, ◌<◌, ◌≤◌, Bool, true, false, cond, not, T, ltb, leb, pos, sym, refl, ap, ◌∙◌, subst, le_trans, le_of_eq, lt_of_lt_of_le, le-add_right, lt_of_le_of_lt, mul-le-mul_right, mod-lt, mul_assoc, div-lt_iff_lt-mul, mul-le-mul, le_antisymm, mul-lt-mul_of_pos_right, lt_of_not-le, le-div_iff_mul-le, not-le_of_lt, le_of_mul-le-mul_right, add-one, arith, ltb→lt, leb→le, nltb→le, pow_pos, pow_mono, pow-add}
+use Rattle.std.proofs.Common.{◌≡◌, ℕ, zero, suc, ◌+◌, ◌*◌, ◌/◌, ◌%◌, ◌^◌, ◌<◌, ◌≤◌, Bool, true, false, cond, not, T, ltb, leb, ℤ, pos, sym, refl, ap, ◌∙◌, subst, le_trans, le_of_eq, lt_of_lt_of_le, le-add_right, lt_of_le_of_lt, mul-le-mul_right, mod-lt, mul_assoc, div-lt_iff_lt-mul, mul-le-mul, le_antisymm, mul-lt-mul_of_pos_right, lt_of_not-le, le-div_iff_mul-le, not-le_of_lt, le_of_mul-le-mul_right, add-one, arith, ltb→lt, leb→le, nltb→le, pow_pos, pow_mono, pow-add, None, Option, Some}
 use native.Mathlib.Nat.{eq_of_mul-eq-mul_right}
 use lib.Dec.{nleb→lt}
 use lib.Ieee.{Float, nan, inf, fin, binary64, up, down, nearest}
@@ -11,8 +11,6 @@ use Rattle.number.specs.Limits.{grid_limit}
 use Rattle.number.specs.Steps.Magnitude.{field_units, units_of}
 use Rattle.number.specs.Grid.{signed, whole_nearest, placed}
 use Rattle.number.proofs.Rounding.{compare_lt, compare_gt, compare_eq, near, closest_zero}
-use Rattle.number.specs.declared.grid.Coordinate.{Coordinate}
-use Rattle.number.specs.declared.grid.Coordinate.TheVariants.{On, Off}
 
 -- ---- equal fractions round alike; what is large rounds to something large, and less than a half to 0
 -- the rule is that of the format's rounding, so that its laws hold here
@@ -47,8 +45,8 @@ pub whole_zero : (a b : ℕ) → 0 < b → 2 * a < b → whole_nearest a b ≡ 0
 whole_zero a b B h = whole_closest a b ∙ closest_zero a b (omega arith)
 
 -- ---- the coordinate
-abbrev pub coordinate : Bool → ℕ → Coordinate
-coordinate s n = cond (leb n grid_limit) (On (signed s n)) Off
+abbrev pub coordinate : Bool → ℕ → Option ℤ
+coordinate s n = cond (leb n grid_limit) (Some (signed s n)) None
 
 pub placed_value : (x : Float) (s : Bool) (n : ℕ) → HasValue x s n (2 ^ 1074) → placed x ≡ coordinate s (whole_nearest n (2 ^ 1074))
 unfolding placed
@@ -58,29 +56,29 @@ placed_value (fin t m e) s n h =
     ap (λ (b : Bool). coordinate b (whole_nearest (m * up e) (down e))) h.0
     ∙ ap (coordinate s) (whole_same (m * up e) (down e) n (2 ^ 1074) (down_pos e) (pow_pos 1074) h.1)
 
-pub placed_nan : (x : Float) → x ≡ nan → Off ≡ placed x
+pub placed_nan : (x : Float) → x ≡ nan → None ≡ placed x
 unfolding placed
 placed_nan x e = sym (ap placed e)
 
-pub placed_inf : (x : Float) (s : Bool) → x ≡ inf s → Off ≡ placed x
+pub placed_inf : (x : Float) (s : Bool) → x ≡ inf s → None ≡ placed x
 unfolding placed
 placed_inf x s e = sym (ap placed e)
 
-pub off : (s : Bool) (n : ℕ) → grid_limit < n → Off ≡ coordinate s n
+pub off : (s : Bool) (n : ℕ) → grid_limit < n → None ≡ coordinate s n
 off s n h = go (leb n grid_limit) (leb→le n grid_limit)
   where
-    go : (b : Bool) → (T b → n ≤ grid_limit) → Off ≡ cond b (On (signed s n)) Off
+    go : (b : Bool) → (T b → n ≤ grid_limit) → None ≡ cond b (Some (signed s n)) None
     go true l = absurd (let z = l tt in omega arith)
     go false l = refl
 
-pub on : (s : Bool) (n : ℕ) → n ≤ grid_limit → On (signed s n) ≡ coordinate s n
+pub on : (s : Bool) (n : ℕ) → n ≤ grid_limit → Some (signed s n) ≡ coordinate s n
 on s n h = go (leb n grid_limit) (nleb→lt n grid_limit)
   where
-    go : (b : Bool) → (T (not b) → grid_limit < n) → On (signed s n) ≡ cond b (On (signed s n)) Off
+    go : (b : Bool) → (T (not b) → grid_limit < n) → Some (signed s n) ≡ cond b (Some (signed s n)) None
     go true l = refl
     go false l = absurd (let z = l tt in omega arith)
 
-pub zero_on : (s : Bool) → On (pos 0) ≡ coordinate s 0
+pub zero_on : (s : Bool) → Some (pos 0) ≡ coordinate s 0
 zero_on true = refl
 zero_on false = refl
 

@@ -6,18 +6,10 @@ use native.Mathlib.Nat.{two-pow-succ, eq_of_mul-eq-mul_right}
 use lib.Dec.{eqb_refl}
 use lib.Ieee.{Float, nan, inf, fin, binary64, up, down, lt, eq, le, level, is_nan, fits}
 use lib.Ieee.Fits.{up_pos, down_pos, and_i, and_l, and_r}
-use Rattle.number.specs.Arithmetic.{negative, zero_of, upper_of, precedes, min_of, max_of}
+use Rattle.number.specs.Arithmetic.{lower_of, upper_of, negative, zero_of, upper_of, precedes, min_of, max_of}
 use Rattle.number.specs.Extremes.{Value, ZeroRule}
 use Rattle.number.proofs.Formats.{value_unique}
 use Rattle.number.proofs.Places.{or_false, place}
-
--- y where x is a NaN, and x where it is none
-pub either_nan : (x y : Float) → x ≡ nan → y ≡ cond (is_nan x) y x
-unfolding is_nan
-either_nan x y e = sym (ap (λ (z : Float). cond (is_nan z) y x) e)
-
-pub either_number : (x y : Float) → is_nan x ≡ false → x ≡ cond (is_nan x) y x
-either_number x y n = sym (ap (λ (b : Bool). cond b y x) n)
 
 -- ---- zeros
 
@@ -171,14 +163,14 @@ chosen t x y f true true e l = refl
 chosen t x y f true false e l = e
 chosen t x y f false b e l = sym (ap (λ (z : Bool). cond z y f) l) ∙ ap (λ (z : Float). cond (t z) y z) e
 
-module _ (x y f : Float) (b : Bool) (h : eq x y ≡ false) (e : f ≡ cond (is_nan x) y x) where
-  pub min_from : lt y f ≡ b → cond b y f ≡ min_of x y
+module _ (x y f : Float) (h : eq x y ≡ false) (e : f ≡ cond (is_nan x) y x) where
+  pub min_from : lower_of f y ≡ min_of x y
   unfolding min_of
-  min_from l = chosen (λ z. lt y z) x y f (is_nan x) b e l ∙ rw (by_order y x (unequal_turned x y h))
+  min_from = chosen (λ z. lt y z) x y f (is_nan x) (lt y f) e refl ∙ rw (by_order y x (unequal_turned x y h))
 
-  pub max_from : lt f y ≡ b → cond b y f ≡ max_of x y
+  pub max_from : upper_of f y ≡ max_of x y
   unfolding max_of
-  max_from l = chosen (λ z. lt z y) x y f (is_nan x) b e l ∙ rw (by_order x y h)
+  max_from = chosen (λ z. lt z y) x y f (is_nan x) (lt f y) e refl ∙ rw (by_order x y h)
 
 -- what comes before a number is at most it, and what does not is not less
 pub precedes_le : (x y : Float) → T (precedes x y) → T (le x y)

@@ -1,5 +1,5 @@
 -- A bit pattern that is no NaN's and no infinity's has the value of its fields: `units_of` smallest values. Assumes nothing.
-use Rattle.std.proofs.Common.{◌≡◌, ℕ, zero, suc, ◌+◌, ◌-◌, ◌*◌, ◌/◌, ◌%◌, ◌^◌, ◌<◌, ◌≤◌, Bool, true, false, cond, not, T, eqb, leb, ◌⊎◌, sym, refl, ap, ◌∙◌, subst, inl, inr, lt_of_lt_of_le, le-add_right, mod-lt, mod-eq_of_lt, zero-lt-suc, mul_assoc, div-lt_iff_lt-mul, eq-or-lt_of_le, mul-pos, div-add-mod', mul-one, mul-div_cancel, arith, eqb→eq, nltb→le, pow_pos, pow-add}
+use Rattle.std.proofs.Common.{ap₂, ◌≡◌, ℕ, zero, suc, ◌+◌, ◌-◌, ◌*◌, ◌/◌, ◌%◌, ◌^◌, ◌<◌, ◌≤◌, Bool, true, false, cond, not, T, eqb, leb, ◌⊎◌, sym, refl, ap, ◌∙◌, subst, inl, inr, lt_of_lt_of_le, le-add_right, mod-lt, mod-eq_of_lt, zero-lt-suc, mul_assoc, div-lt_iff_lt-mul, eq-or-lt_of_le, mul-pos, div-add-mod', mul-one, mul-div_cancel, arith, eqb→eq, nltb→le, pow_pos, pow-add}
 use native.Mathlib.Nat.{mul-mod_left, mod-mod_of_dvd, dvd-mul_right}
 use lib.Arith.{lt→nleb}
 use lib.Dec.{nleb→lt}
@@ -7,6 +7,7 @@ use lib.Ieee.{nan, inf, Format, binary64, prec, low, odd, hid, ones, top, is_nan
 use lib.Ieee.Bits.{is_true, is_false, nan_bits_is, nan_bits_above}
 use lib.Ieee.Exact.{HasValue, odd_sign}
 use lib.Ieee.Fits.{eq→eqb}
+use Rattle.number.specs.declared.parts.Scaled.{Scaled}
 use Rattle.number.specs.Steps.Magnitude.{Normalised, field_units, units_of}
 
 fields_value : (f : Format) (s : Bool) (x t : ℕ) → x < ones f → HasValue (of_fields f s x t) s (field_units f x t) (2 ^ low f)
@@ -68,13 +69,15 @@ signed f b n = go (leb (top f) b) (nleb→lt (top f) b)
     go false h = absurd (n (sym (mod-eq_of_lt (h tt))))
 
 -- ---- with a field above 0 the significand has all its digits
-pub normal : (b a x : ℕ) → a ≡ b % 2 ^ 52 → x ≡ b / 2 ^ 52 → 0 < x → Normalised b (record { significand = 2 ^ 52 + a; scale = x + 51 })
-normal b a x e f p = record {
+pub normal : (b a x : ℕ) (p : Scaled) → p.significand ≡ 2 ^ 52 + a → p.scale ≡ x + 51 → a ≡ b % 2 ^ 52 → x ≡ b / 2 ^ 52 → 0 < x → Normalised b p
+normal b a x p m w e f l = record {
   leading = omega arith;
   digits = omega (arith, mod-lt b (pow_pos 52));
   least = omega arith;
   most = omega arith;
-  value = units x p ∙ ap (λ (i : ℕ). field_units binary64 x i * 2 ^ 52) e ∙ ap (λ (i : ℕ). field_units binary64 i (b % 2 ^ 52) * 2 ^ 52) f;
+  value =
+      ap₂ (λ (i j : ℕ). i * 2 ^ j) m w ∙ units x l ∙ ap (λ (i : ℕ). field_units binary64 x i * 2 ^ 52) e
+      ∙ ap (λ (i : ℕ). field_units binary64 i (b % 2 ^ 52) * 2 ^ 52) f;
 }
   where
     units : (i : ℕ) → 0 < i → (2 ^ 52 + a) * 2 ^ (i + 51) ≡ field_units binary64 i a * 2 ^ 52

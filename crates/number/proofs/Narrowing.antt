@@ -8,7 +8,7 @@ use lib.Ieee.Exact.{HasValue}
 use lib.Ieee.Fits.{nearest-le, down_pos}
 use lib.Ieee.Nearest.{closest, closest_same, nearest-ge}
 use lib.Ieee.Scale.{round_same}
-use Rattle.number.specs.declared.Scaled.{Scaled}
+use Rattle.number.specs.declared.parts.Scaled.{Scaled}
 use Rattle.number.specs.Format.{narrow_of}
 use Rattle.number.specs.Steps.Magnitude.{Narrowed, Normalised, units_of}
 use Rattle.number.proofs.Fields.{bits_value, signed, unsigned}

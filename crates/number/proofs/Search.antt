@@ -1,8 +1,11 @@
 -- The search for a root, bit by bit: `AfterBit` of `specs/Search.antt` holds after the first bit, one bit more keeps it, and after the last bit the whole root is
 -- found. The idea: (root + h)² = root² + (2 * root + h) * h, so that what a bit h adds to the square is what the remainder loses. Assumes nothing.
-use Rattle.std.proofs.Common.{◌≡◌, ℕ, zero, suc, ◌+◌, ◌-◌, ◌*◌, ◌/◌, ◌^◌, ◌<◌, ◌≤◌, Bool, true, false, cond, not, T, ltb, leb, sym, refl, ap, ◌∙◌, subst, le_trans, le_of_eq, le-add_right, lt_of_le_of_lt, zero-mul, mul-one, mul-div_cancel, arith, leb→le, nltb→le, pow_pos}
+use Rattle.std.proofs.Common.{◌≡◌, ℕ, zero, suc, ◌+◌, ◌-◌, ◌*◌, ◌/◌, ◌^◌, ◌<◌, ◌≤◌, Bool, true, false, cond, not, T, ltb, leb, eqb, lt→ltb, zero-lt-suc, sym, refl, ap, ◌∙◌, subst, le_trans, le_of_eq, le-add_right, lt_of_le_of_lt, zero-mul, mul-one, mul-div_cancel, arith, leb→le, pow_pos}
 use native.Mathlib.Nat.{pow-succ'}
+use Rattle.std.proofs.lemmas.Bool.Decides.{nat_tests}
+use Rattle.std.specs.Int.{from_bool}
 use lib.Dec.{nleb→lt}
+use lib.Ieee.Bits.{is_true}
 use Rattle.number.specs.Root.{root_of, rest_of}
 use Rattle.number.specs.Search.{RootSoFar, AfterBit, RootFound, used_of, kept_of, skipped_of, tried_of}
 use Rattle.number.specs.declared.root.PartialRoot.{PartialRoot}
@@ -107,8 +110,8 @@ root_below n b root remainder k s l =
     square_lt root k (lt_of_le_of_lt (le_trans (le-add_right (root * root) (remainder * b)) (le_of_eq (whole s))) l)
 
 -- ---- the last bit, or nothing left
-pub exact : (n b root remainder q : ℕ) → RootSoFar n b root remainder → q ≡ root → remainder ≡ 0 → RootFound n (record { root = q; rest = 0 })
-exact n b root remainder q s e z = record { remainder = 0; searched = searched n 1 q 0 q n (omega arith) (sym (mul-one n)) (sym (mul-one q)) square (omega arith); rest = refl }
+pub exact : (n b root remainder q : ℕ) → RootSoFar n b root remainder → q ≡ root → remainder ≡ 0 → RootFound n (record { root = q; inexact = false })
+exact n b root remainder q s e z = record { remainder = 0; searched = searched n 1 q 0 q n (omega arith) (sym (mul-one n)) (sym (mul-one q)) square (omega arith); inexact = refl }
   where
     square : q * q + 0 * 1 ≡ n
     square =
@@ -116,18 +119,16 @@ exact n b root remainder q s e z = record { remainder = 0; searched = searched n
         ∙ sym (ap (λ (i : ℕ). root * root + i) {x = remainder * b} {y = 0 * 1} (ap (λ (i : ℕ). i * b) z ∙ zero-mul b))
         ∙ whole s
 
-some : (remainder : ℕ) → (remainder ≡ 0 → ⊥) → ◌≡◌ {A = ℕ} 1 (cond (ltb 0 remainder) 1 0)
-some remainder z = go (ltb 0 remainder) (nltb→le 0 remainder)
-  where
-    go : (c : Bool) → (T (not c) → remainder ≤ 0) → ◌≡◌ {A = ℕ} 1 (cond c 1 0)
-    go true l = refl
-    go false l = absurd (z (let m = l tt in omega arith))
+-- four times the remainder is 0 just where nothing is left
+left_is : (remainder left : ℕ) → left ≡ 4 * remainder → not (eqb left 0) ≡ ltb 0 remainder
+left_is remainder left e = grind (arith, nat_tests)
 
-pub inexact : (n b root remainder q : ℕ) → RootSoFar n b root remainder → q ≡ root → b ≡ 1 → (remainder ≡ 0 → ⊥) → RootFound n (record { root = q; rest = 1 })
-inexact n b root remainder q s e f z = record {
+pub last : (n b root remainder q left : ℕ) → RootSoFar n b root remainder → q ≡ root → b ≡ 1 → left ≡ 4 * remainder
+    → RootFound n (record { root = q; inexact = not (eqb left 0) })
+last n b root remainder q left s e f l = record {
   remainder = remainder;
   searched = subst (λ (i : ℕ). RootSoFar n i q remainder) f (subst (λ (i : ℕ). RootSoFar n b i remainder) (sym e) s);
-  rest = some remainder z;
+  inexact = left_is remainder left l;
 }
 
 -- ---- what is found is the whole root
@@ -138,9 +139,9 @@ module _ (n : ℕ) (r : WholeRoot) (f : RootFound n r) where
   pub found_root : r.root ≡ root_of n
   found_root = let e = least in let m = f.searched.most in sym (root_unique n r.root (omega arith) (omega arith))
 
-  pub found_rest : r.rest ≡ rest_of (root_of n) n
-  found_rest = f.rest ∙ go f.remainder least ∙ ap (λ (i : ℕ). rest_of i n) found_root
+  pub found_rest : from_bool r.inexact ≡ rest_of (root_of n) n
+  found_rest = ap from_bool f.inexact ∙ go f.remainder least ∙ ap (λ (i : ℕ). rest_of i n) found_root
     where
-      go : (m : ℕ) → r.root * r.root + m ≡ n → ◌≡◌ {A = ℕ} (cond (ltb 0 m) 1 0) (rest_of r.root n)
+      go : (m : ℕ) → r.root * r.root + m ≡ n → from_bool (ltb 0 m) ≡ rest_of r.root n
       go zero e = sym (rest_none r.root n (omega arith))
-      go (suc m) e = sym (some (suc m) (λ z. omega arith)) ∙ sym (rest_some r.root n (omega arith))
+      go (suc m) e = ap from_bool (is_true (ltb 0 (suc m)) (lt→ltb 0 (suc m) (zero-lt-suc m))) ∙ sym (rest_some r.root n (omega arith))

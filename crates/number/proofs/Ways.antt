@@ -1,8 +1,7 @@
 -- The ways out of a call, from its tests: the first that fails gives its refusal, and one that holds passes on. Of an operation over lent slices: the test of its
 -- inputs' lengths fails, the output has another length, or there is a result. Assumes nothing.
-use Rattle.std.proofs.Common.{◌≡◌, ℕ, Bool, true, false, cond, ◌&&◌, List, length, sym, ap, ◌∙◌, ap₂, eq-eqb, ne_eqb}
+use Rattle.std.proofs.Common.{◌≡◌, ℕ, Bool, true, false, cond, ◌&&◌, List, length, sym, ap, ◌∙◌, ap₂, eq-eqb, ne_eqb, Ok}
 use lib.Ieee.{Float}
-use Rattle.number.specs.declared.answer.Written.TheVariants.{Done}
 use Rattle.number.specs.Answer.{Reply, reply, refuse, write, Outcome, refused, outcome, unless, leaving, replied, answering}
 use Rattle.number.specs.Slice.{stored}
 
@@ -36,7 +35,7 @@ module _ {A : Type 0} (inputs : Bool) (n : ℕ) (done : Reply A) (out : List A) 
 
 -- the numbers v are stored into a slice of their length
 pub written : (inputs : Bool) (n : ℕ) (done : Reply Float) (out v x : List Float) → inputs ≡ true → length out ≡ n → length v ≡ n → x ≡ stored v out → write v ≡ done
-    → reply Done x ≡ leaving inputs n done out
+    → reply (Ok tt) x ≡ leaving inputs n done out
 written inputs n done out v x h l k e p = ap write (e ∙ ap (λ (t : Bool). cond t v out) (eq-eqb _ _ (k ∙ sym l))) ∙ p ∙ left inputs n done out h l
 
 -- what an answer comes to is what an equal one does

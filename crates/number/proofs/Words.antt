@@ -1,45 +1,67 @@
 -- Bytes as whole numbers, and numbers put from bytes one after the other. Assumes nothing.
-use Rattle.std.proofs.Common.{◌≡◌, ℕ, zero, suc, ◌+◌, ◌*◌, ◌<◌, ◌≤◌, Bool, cond, List, [], ◌∷◌, ◌++◌, length, get_or, take, drop, set, sym, refl, ap, ◌∙◌, append_assoc, append-nil, add-one, arith, drop-cons, le-leb}
+use Rattle.std.proofs.Common.{◌≡◌, ℕ, zero, suc, ◌+◌, ◌*◌, ◌<◌, ◌≤◌, Bool, cond, List, [], ◌∷◌, ◌++◌, length, get_or, take, drop, set, None, Option, Some, MatchOption, sym, refl, ap, ◌∙◌, append_assoc, add-one, arith, drop-cons, le-leb, take_all, length-take-le, length-drop, drop-drop, ◌/◌}
 use borrow.Author.Tests.{lt-leb}
-use lib.Seq.{drop-length, set_at}
+use native.Mathlib.Nat.{pow-succ'}
+use Rattle.std.specs.Simd.{first_chunks}
+use Rattle.std.specs.Int.{byte_worth, sum_through}
+use lib.Seq.{set_at}
 use lib.Ieee.{Float, nan}
 use Rattle.number.specs.Bytes.{little_endian, word_at, f64_at, numbers_at, loaded}
 
 -- ---- words
 
-first_byte : (n i : ℕ) (b : List ℕ) → i < length b → little_endian (take (suc n) (drop i b)) ≡ get_or b i 0 + 256 * little_endian (take n (drop (i + 1) b))
+-- one byte more, at the end
+worth_more : (k x : ℕ) → byte_worth (suc k) x ≡ 256 * byte_worth k x
+worth_more zero x = omega arith
+worth_more (suc k) x = let e = ap (λ (p : ℕ). x * p) (pow-succ' 256 (suc k)) in omega (arith, e)
+
+last_byte : (w : List ℕ) (k : ℕ) → little_endian (take (suc k) w) ≡ little_endian (take k w) + byte_worth k (get_or w k 0)
 unfolding little_endian
-first_byte n i b h =
-    ap (λ (l : List ℕ). little_endian (take (suc n) l)) (drop-cons b i 0 h)
-    ∙ ap (λ (k : ℕ). get_or b i 0 + 256 * little_endian (take n (drop k b))) (sym (add-one i))
+last_byte [] zero = refl
+last_byte [] (suc k) = omega arith
+last_byte (b ∷ w) zero = omega arith
+last_byte (b ∷ w) (suc k) = omega (arith, last_byte w k, worth_more k (get_or w k 0))
 
-module _ (b : List ℕ) (i : ℕ) where
-  -- four bytes, and n more
-  pub four_bytes : (n : ℕ) → i + 4 ≤ length b
-      → little_endian (take (suc (suc (suc (suc n)))) (drop i b))
-      ≡ get_or b i 0 + 256 * get_or b (i + 1) 0 + 65536 * get_or b (i + 2) 0 + 16777216 * get_or b (i + 3) 0 + 4294967296 * little_endian (take n (drop (i + 4) b))
-  four_bytes n h =
-      let e0 = first_byte (suc (suc (suc n))) i b (omega arith) in
-      let e1 = first_byte (suc (suc n)) (i + 1) b (omega arith) in
-      let e2 = first_byte (suc n) (i + 2) b (omega arith) in
-      let e3 = first_byte n (i + 3) b (omega arith) in
-      let s1 : i + 1 + 1 ≡ i + 2 = omega arith in
-      let s2 : i + 2 + 1 ≡ i + 3 = omega arith in
-      let s3 : i + 3 + 1 ≡ i + 4 = omega arith in
-      omega (arith, e0, rw s1 at e1, rw s2 at e2, rw s3 at e3)
+-- the bytes in their places, the lowest first
+pub in_places : (w : List ℕ) (k : ℕ) → sum_through (λ i. byte_worth i (get_or w i 0)) k ≡ little_endian (take (suc k) w)
+unfolding little_endian
+in_places w zero = omega (arith, last_byte w 0)
+in_places w (suc k) = ap (λ (n : ℕ). n + byte_worth (suc k) (get_or w (suc k) 0)) (in_places w k) ∙ sym (last_byte w (suc k))
 
-  module _ (n : ℕ) where
-    pub is_there : i + n ≤ length b → little_endian (take n (drop i b)) ≡ word_at n b i
-    unfolding word_at
-    is_there h = sym (ap (λ (t : Bool). cond t (little_endian (take n (drop i b))) 0) (le-leb _ _ h))
+module _ (b : List ℕ) (i n : ℕ) where
+  pub is_there : i + n ≤ length b → little_endian (take n (drop i b)) ≡ word_at n b i
+  unfolding word_at
+  is_there h = sym (ap (λ (t : Bool). cond t (little_endian (take n (drop i b))) 0) (le-leb _ _ h))
 
-    pub not_there : length b < i + n → 0 ≡ word_at n b i
-    unfolding word_at
-    not_there h = sym (ap (λ (t : Bool). cond t (little_endian (take n (drop i b))) 0) (lt-leb _ _ h))
+  pub not_there : length b < i + n → 0 ≡ word_at n b i
+  unfolding word_at
+  not_there h = sym (ap (λ (t : Bool). cond t (little_endian (take n (drop i b))) 0) (lt-leb _ _ h))
 
-  pub eight_bytes : i + 8 ≤ length b → (low high : ℕ) → low ≡ little_endian (take 4 (drop i b)) → high ≡ little_endian (take 4 (drop (i + 4) b)) → low + 4294967296 * high ≡ word_at 8 b i
-  unfolding little_endian
-  eight_bytes h low high p q = omega (arith, four_bytes 0 (omega arith), four_bytes 4 (omega arith)) ∙ is_there 8 h
+-- what is read of n bytes, where they are all there, and 0 where not
+pub read : (b : List ℕ) (i n x : ℕ) (r : Option (List ℕ)) → MatchOption r (length b < i + suc n) (λ w. (i + suc n ≤ length b) × (w ≡ take (suc n) (drop i b)))
+    → MatchOption r (x ≡ 0) (λ w. x ≡ sum_through (λ k. byte_worth k (get_or w k 0)) n) → x ≡ word_at (suc n) b i
+read b i n x None h e = e ∙ not_there b i (suc n) h
+read b i n x (Some w) h e =
+    e ∙ in_places w n
+    ∙ ap (λ (l : List ℕ). little_endian l) (take_all (suc n) w (omega (arith, ap length h.1, length-take-le (suc n) (drop i b), length-drop i b)) ∙ h.1)
+    ∙ is_there b i (suc n) h.0
+
+-- the bytes from a place on, eight at a time
+chunk_at : (n k : ℕ) (l : List ℕ) (j : ℕ) (d : List ℕ) → j < k → get_or (first_chunks n k l) j d ≡ take n (drop (n * j) l)
+chunk_at n zero l j d h = absurd (omega arith)
+chunk_at n (suc k) l zero d h = ap (λ (i : ℕ). take n (drop i l)) {x = 0} {y = n * 0} (omega arith)
+chunk_at n (suc k) l (suc j) d h =
+    chunk_at n k (drop n l) j d (omega arith) ∙ ap (take n) (drop-drop (n * j) n l) ∙ ap (λ (i : ℕ). take n (drop i l)) {x = n + n * j} {y = n * suc j} (omega arith)
+
+pub eighth : (b : List ℕ) (words : List (List ℕ)) (i j x : ℕ) (d : List ℕ) → words ≡ first_chunks 8 (length (drop i b) / 8) (drop i b)
+    → i + 8 * j + 8 ≤ length b → x ≡ sum_through (λ k. byte_worth k (get_or (get_or words j d) k 0)) 7 → x ≡ word_at 8 b (i + 8 * j)
+eighth b words i j x d p h e =
+    let word : get_or words j d ≡ take 8 (drop (i + 8 * j) b) =
+    ap (λ (l : List (List ℕ)). get_or l j d) p ∙ chunk_at 8 (length (drop i b) / 8) (drop i b) j d (omega (arith, length-drop i b))
+    ∙ ap (take 8) (drop-drop (8 * j) i b) in
+    e ∙ in_places (get_or words j d) 7
+    ∙ ap (λ (l : List ℕ). little_endian l) (take_all 8 (get_or words j d) (omega (arith, ap length word, length-take-le 8 (drop (i + 8 * j) b), length-drop (i + 8 * j) b)) ∙ word)
+    ∙ is_there b (i + 8 * j) 8 h
 
 -- ---- numbers, one after the other
 
@@ -81,11 +103,3 @@ module _ (b : List ℕ) (i : ℕ) (out : List Float) where
 
   pub all_there : i + 8 * length out ≤ length b → loaded b i out ≡ numbers_at b i (length out)
   all_there h = ap (λ (t : Bool). cond t (numbers_at b i (length out)) out) (le-leb _ _ h)
-
-  pub all_filled : (n : ℕ) (l : List Float) → i + 8 * length out ≤ length b → n ≡ length out → l ≡ filled n → l ≡ loaded b i out
-  all_filled n l h k e =
-      e ∙ ap filled k ∙ ap (λ (t : List Float). numbers_at b i (length out) ++ t) (drop-length out) ∙ append-nil (numbers_at b i (length out))
-      ∙ sym (all_there h)
-
-  pub none_there : length b < i + 8 * length out → out ≡ loaded b i out
-  none_there h = sym (ap (λ (t : Bool). cond t (numbers_at b i (length out)) out) (lt-leb _ _ h))

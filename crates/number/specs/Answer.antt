@@ -1,18 +1,8 @@
 -- What a call answers, by the numbers of the refusals. Definitions only.
-use Rattle.std.specs.Prelude.{ℕ, Bool, true, false, List, length, ◌==◌, Float}
+use Rattle.std.specs.Prelude.{ℕ, Bool, true, false, List, length, ◌==◌, Option, Some, None, Result, Ok, Err, ⊤}
 use Rattle.number.specs.declared.answer.Refusal.{Refusal}
 use Rattle.number.specs.declared.answer.Refusal.TheVariants.{InputLength, OutputLength, Kind, Singular, Miss, NotAProjection, OffGrid, NotFinite, Directory, SectionLength, GroupSize, PlaneCount, MissingNumber, InView}
-use Rattle.number.specs.declared.answer.Written.{Written}
-use Rattle.number.specs.declared.answer.Written.TheVariants.{Done, Refused}
-use Rattle.number.specs.declared.answer.Scalar.{Scalar}
-use Rattle.number.specs.declared.answer.Scalar.TheVariants.{Value, Refused as NoValue}
-use Rattle.number.specs.declared.answer.Counted.{Counted}
-use Rattle.number.specs.declared.answer.Counted.TheVariants.{Count, Refused as NoCount}
-use Rattle.number.specs.declared.answer.Place.{Place}
-use Rattle.number.specs.declared.answer.Place.TheVariants.{At, Nowhere, Refused as NoPlace}
 use Rattle.number.specs.Slots.{unused}
-use Rattle.number.specs.declared.answer.Verdict.{Verdict}
-use Rattle.number.specs.declared.answer.Verdict.TheVariants.{Yes, No, Refused as NoVerdict}
 
 -- the number of each refusal
 abbrev pub number_of : Refusal → ℕ
@@ -51,11 +41,11 @@ abbrev pub write : {A : Type 0} → List A → Reply A
 write v = answered 0 v
 
 -- the number of such an answer
-abbrev pub status_of : Written → ℕ
-status_of Done = 0
-status_of (Refused r) = number_of r
+abbrev pub status_of : Result ⊤ Refusal → ℕ
+status_of (Ok done) = 0
+status_of (Err r) = number_of r
 
-abbrev pub reply : {A : Type 0} → Written → List A → Reply A
+abbrev pub reply : {A : Type 0} → Result ⊤ Refusal → List A → Reply A
 reply a out = answered (status_of a) out
 
 -- ---- an operation that answers with a lone number, or with a yes or a no
@@ -70,29 +60,9 @@ abbrev pub and_then : {A B : Type 0} → Outcome A → (A → Outcome B) → Out
 and_then (refused k) f = refused k
 and_then (outcome x) f = f x
 
-abbrev pub scalar_of : Scalar → Outcome Float
-scalar_of (Value x) = outcome x
-scalar_of (NoValue r) = refused (number_of r)
-
-abbrev pub verdict_of : Verdict → Outcome Bool
-verdict_of Yes = outcome true
-verdict_of No = outcome false
-verdict_of (NoVerdict r) = refused (number_of r)
-
--- how many there are
-abbrev pub counted_of : Counted → Outcome ℕ
-counted_of (Count n) = outcome n
-counted_of (NoCount r) = refused (number_of r)
-
--- a place, "counting from 0", or none
-pub data Found : Type 0 where
-  nowhere : Found
-  found : ℕ → Found
-
-abbrev pub place_of : Place → Outcome Found
-place_of (At i) = outcome (found i)
-place_of Nowhere = outcome nowhere
-place_of (NoPlace r) = refused (number_of r)
+abbrev pub outcome_of : {A : Type 0} → Result A Refusal → Outcome A
+outcome_of (Ok x) = outcome x
+outcome_of (Err r) = refused (number_of r)
 
 -- What such a call leaves where its result goes through a reference: 0 or the number of its refusal, and what stands there afterwards.
 pub record Lone (A : Type 0) : Type 0 where
@@ -114,10 +84,10 @@ put_verdict (outcome true) before = lone 0 1
 put_verdict (outcome false) before = lone 0 0
 
 -- the place, and the number of an unused slot for none
-abbrev pub put_place : Outcome Found → ℕ → Lone ℕ
+abbrev pub put_place : Outcome (Option ℕ) → ℕ → Lone ℕ
 put_place (refused n) before = lone n before
-put_place (outcome (found i)) before = lone 0 i
-put_place (outcome nowhere) before = lone 0 unused
+put_place (outcome (Some i)) before = lone 0 i
+put_place (outcome None) before = lone 0 unused
 
 -- ---- the order of refusals: the first test that fails decides
 

@@ -1,12 +1,10 @@
 -- The survey grid: a point in metres becomes whole centimetres. Definitions and statements only.
-use Rattle.std.specs.Prelude.{◌≡◌, ℕ, ◌+◌, ◌-◌, ◌*◌, ◌/◌, ◌%◌, ◌<◌, ◌≤◌, Bool, true, false, cond, ◌⊎◌, List, [], ◌∷◌, map, ℤ, pos, neg_ℤ, from_bits, nat_le, nat_lt, Float}
+use Rattle.std.specs.Prelude.{◌≡◌, ℕ, ◌+◌, ◌-◌, ◌*◌, ◌/◌, ◌%◌, ◌<◌, ◌≤◌, Bool, true, false, cond, ◌⊎◌, List, [], ◌∷◌, map, ℤ, pos, neg_ℤ, from_bits, nat_le, nat_lt, Float, None, Option, Some}
 use Rattle.std.specs.Float.{nan, inf, fin, binary64}
 use Rattle.std.specs.Float.Ieee.{up, down, of_int}
 use Rattle.number.specs.Limits.{point_length, grid_limit}
 use Rattle.number.specs.Arithmetic.{◌⊗◌}
 use Rattle.number.specs.Answer.{Reply, Outcome, refused, outcome, has, attempting}
-use Rattle.number.specs.declared.grid.Coordinate.{Coordinate}
-use Rattle.number.specs.declared.grid.Coordinate.TheVariants.{On, Off}
 
 -- "each coordinate is multiplied by 100 in one rounded operation"
 abbrev pub centimetres : Float → Float
@@ -39,17 +37,17 @@ signed false n = pos n
 signed true n = neg_ℤ (pos n)
 
 -- the coordinate that a product comes to
-unfoldable pub placed : Float → Coordinate
-placed nan = Off
-placed (inf s) = Off
-placed (fin s m e) = let n = whole_nearest (m * up e) (down e) in cond (nat_le n grid_limit) (On (signed s n)) Off
+unfoldable pub placed : Float → Option ℤ
+placed nan = None
+placed (inf s) = None
+placed (fin s m e) = let n = whole_nearest (m * up e) (down e) in cond (nat_le n grid_limit) (Some (signed s n)) None
 
 -- what each case of the answer comes to: a whole number, or "7 off the grid"
-abbrev pub coordinate_of : Coordinate → Outcome ℤ
-coordinate_of (On z) = outcome z
-coordinate_of Off = refused 7
+abbrev pub coordinate_of : Option ℤ → Outcome ℤ
+coordinate_of (Some z) = outcome z
+coordinate_of None = refused 7
 
-abbrev pub grid_coordinates : List Float → List Coordinate
+abbrev pub grid_coordinates : List Float → List (Option ℤ)
 grid_coordinates p = map (λ x. placed (centimetres x)) p
 
 -- a whole number in front of others, as a result: its zero is positive
@@ -59,7 +57,7 @@ in_front_of (outcome z) (refused k) = refused k
 in_front_of (outcome z) (outcome xs) = outcome (of_int binary64 z ∷ xs)
 
 -- the numbers of several coordinates, or the refusal of one of them
-unfoldable pub grid_numbers : List Coordinate → Outcome (List Float)
+unfoldable pub grid_numbers : List (Option ℤ) → Outcome (List Float)
 grid_numbers [] = outcome []
 grid_numbers (c ∷ cs) = in_front_of (coordinate_of c) (grid_numbers cs)
 

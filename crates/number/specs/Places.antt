@@ -1,6 +1,5 @@
 -- Places, counted from 0: those below a limit that pass a test. Definitions only.
-use Rattle.std.specs.Prelude.{ℕ, zero, suc, ◌+◌, Bool, cond, List, [], ◌∷◌, ◌++◌}
-use Rattle.number.specs.Answer.{Found, nowhere, found}
+use Rattle.std.specs.Prelude.{ℕ, zero, suc, ◌+◌, Bool, cond, List, [], ◌∷◌, ◌++◌, None, Option, Some}
 
 -- the places below n that pass a test, rising
 unfoldable pub places_below : ℕ → (ℕ → Bool) → List ℕ
@@ -13,6 +12,6 @@ count_below zero test = 0
 count_below (suc n) test = count_below n test + cond (test n) 1 0
 
 -- the first of a list of places, if there is one
-abbrev pub first_of : List ℕ → Found
-first_of [] = nowhere
-first_of (i ∷ is) = found i
+abbrev pub first_of : List ℕ → Option ℕ
+first_of [] = None
+first_of (i ∷ is) = Some i

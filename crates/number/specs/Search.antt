@@ -48,8 +48,8 @@ pub record Tried (s : PartialRoot) (b : ℕ) (r : PartialRoot) : Type 0 where
   pub is : r ≡ tried_of s b
   pub next : (n : ℕ) → 1 < b → AfterBit n b s → AfterBit n (b / 2) r
 
--- What is found after the last bit, 1. The rest is 1 where there is a remainder.
+-- What is found after the last bit, 1: inexact where there is a remainder.
 pub record RootFound (n : ℕ) (r : WholeRoot) : Type 0 where
   pub remainder : ℕ
   pub searched : RootSoFar n 1 r.root remainder
-  pub rest : r.rest ≡ cond (nat_lt 0 remainder) 1 0
+  pub inexact : r.inexact ≡ nat_lt 0 remainder

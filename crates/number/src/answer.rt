@@ -1,171 +1,66 @@
-// What a call answers: that it wrote its result, a lone number, a yes or a no; or why it was refused.
+// Why a call is refused, and how an answer goes to C: a status, and a lone result to where it is lent.
 ghost use Rattle.std.specs.Prelude.{◌≡◌};
-ghost use Rattle.number.specs.Answer.{number_of, status_of, scalar_of, verdict_of, counted_of, place_of, outcome, lone, put, put_verdict, put_place};
+ghost use Rattle.number.specs.Answer.{number_of, status_of, outcome_of, lone, put, put_verdict, put_place};
 
 use crate::slots::UNUSED;
 
-#[derive(Clone, Copy)]
+// Each with its number.
+#[derive(Clone, Copy, Debug, PartialEq, Eq)]
 pub enum Refusal {
-    InputLength,
-    OutputLength,
-    Kind,
-    Singular,
-    Miss,
-    NotAProjection,
-    OffGrid,
-    NotFinite,
-    Directory,
-    SectionLength,
-    GroupSize,
-    PlaneCount,
-    MissingNumber,
-    InView,
+    InputLength = 1,
+    OutputLength = 2,
+    Kind = 3,
+    Singular = 4,
+    Miss = 5,
+    NotAProjection = 6,
+    OffGrid = 7,
+    NotFinite = 8,
+    Directory = 9,
+    SectionLength = 10,
+    GroupSize = 11,
+    PlaneCount = 12,
+    MissingNumber = 13,
+    InView = 14,
 }
 
-#[derive(Clone, Copy)]
-pub enum Written {
-    Done,
-    Refused(Refusal),
-}
+impl From<Refusal> for u32 {
+    ghost from_gives = { λ r n. n ≡ number_of r };
 
-#[derive(Clone, Copy)]
-pub enum Scalar {
-    Value(f64),
-    Refused(Refusal),
-}
-
-#[derive(Clone, Copy)]
-pub enum Verdict {
-    Yes,
-    No,
-    Refused(Refusal),
-}
-
-// How many there are, or a bit for each.
-#[derive(Clone, Copy)]
-pub enum Counted {
-    Count(u32),
-    Refused(Refusal),
-}
-
-// A place, counted from 0, or that there is none.
-#[derive(Clone, Copy)]
-pub enum Place {
-    At(u32),
-    Nowhere,
-    Refused(Refusal),
-}
-
-impl Refusal {
-    // The number of the refusal.
-    pub fn number(self) -> u32
-        ensures { result ≡ number_of self }
-    {
-        match self {
-            Refusal::InputLength => 1,
-            Refusal::OutputLength => 2,
-            Refusal::Kind => 3,
-            Refusal::Singular => 4,
-            Refusal::Miss => 5,
-            Refusal::NotAProjection => 6,
-            Refusal::OffGrid => 7,
-            Refusal::NotFinite => 8,
-            Refusal::Directory => 9,
-            Refusal::SectionLength => 10,
-            Refusal::GroupSize => 11,
-            Refusal::PlaneCount => 12,
-            Refusal::MissingNumber => 13,
-            Refusal::InView => 14,
-        }
+    fn from(refusal: Refusal) -> u32 {
+        refusal as u32
     }
 }
 
-impl Written {
-    // 0, or the number of the refusal.
-    pub fn status(self) -> u32
-        ensures { result ≡ status_of self }
-    {
-        match self {
-            Written::Done => 0,
-            Written::Refused(r) => r.number(),
+// 0, or the number of the refusal.
+pub fn status(answer: Result<(), Refusal>) -> u32
+    ensures { result ≡ status_of answer }
+{
+    put(answer, &mut ())
+}
+
+// What was answered, to where it is lent; 0, or the number of the refusal.
+pub fn put<T: Copy>(answer: Result<T, Refusal>, out: &mut T) -> u32
+    ensures { lone result out.new ≡ put (outcome_of answer) out.old }
+{
+    match answer {
+        Ok(x) => {
+            *out = x;
+            0
         }
+        Err(refusal) => u32::from(refusal),
     }
 }
 
-impl Scalar {
-    // Its number, where it has one, to where it is lent; 0, or the number of the refusal.
-    pub fn put(self, out: &mut f64) -> u32
-        ensures { lone result out.new ≡ put (scalar_of self) out.old }
-    {
-        match self {
-            Scalar::Value(x) => {
-                *out = x;
-                0
-            }
-            Scalar::Refused(r) => r.number(),
-        }
-    }
+// 1 for a yes and 0 for a no.
+pub fn put_verdict(answer: Result<bool, Refusal>, out: &mut u32) -> u32
+    ensures { lone result out.new ≡ put_verdict (outcome_of answer) out.old }
+{
+    put(answer.map(u32::from), out)
 }
 
-impl Verdict {
-    // The answer to a test.
-    pub fn of(yes: bool) -> Verdict
-        ensures { verdict_of result ≡ outcome yes }
-    {
-        if yes {
-            return Verdict::Yes;
-        }
-        Verdict::No
-    }
-
-    // 1 for a yes and 0 for a no, to where it is lent; 0, or the number of the refusal.
-    pub fn put(self, out: &mut u32) -> u32
-        ensures { lone result out.new ≡ put_verdict (verdict_of self) out.old }
-    {
-        match self {
-            Verdict::Yes => {
-                *out = 1;
-                0
-            }
-            Verdict::No => {
-                *out = 0;
-                0
-            }
-            Verdict::Refused(r) => r.number(),
-        }
-    }
-}
-
-impl Counted {
-    // The count, where there is one, to where it is lent; 0, or the number of the refusal.
-    pub fn put(self, out: &mut u32) -> u32
-        ensures { lone result out.new ≡ put (counted_of self) out.old }
-    {
-        match self {
-            Counted::Count(n) => {
-                *out = n;
-                0
-            }
-            Counted::Refused(r) => r.number(),
-        }
-    }
-}
-
-impl Place {
-    // The place, or what stands in an unused slot, to where it is lent; 0, or the number of the refusal.
-    pub fn put(self, out: &mut u32) -> u32
-        ensures { lone result out.new ≡ put_place (place_of self) out.old }
-    {
-        match self {
-            Place::At(i) => {
-                *out = i;
-                0
-            }
-            Place::Nowhere => {
-                *out = UNUSED;
-                0
-            }
-            Place::Refused(r) => r.number(),
-        }
-    }
+// The place, or what stands in an unused slot.
+pub fn put_place(answer: Result<Option<u32>, Refusal>, out: &mut u32) -> u32
+    ensures { lone result out.new ≡ put_place (outcome_of answer) out.old }
+{
+    put(answer.map(|place| place.unwrap_or(UNUSED)), out)
 }

@@ -1,57 +1,28 @@
 // Numbers in lent bytes, the low byte of each first.
-ghost use Rattle.std.specs.Prelude.{◌≡◌, ◌+◌, ◌^◌, ◌<◌, ◌≤◌, length, take, drop};
-ghost use Rattle.number.specs.Bytes.{little_endian, word_at, f64_at, loaded};
+ghost use Rattle.std.specs.Prelude.{◌≡◌, ◌+◌, ◌<◌, ◌≤◌, MatchOption, length, take, drop};
+ghost use Rattle.number.specs.Bytes.{word_at, f64_at, loaded};
 
 use crate::format::from_bits;
 
-fn wide(b: u8) -> u64
-    ensures { (result ≡ b) × (result < 256) }
+// So many bytes from a place on, where they are all there.
+fn bytes_at<const N: usize>(bytes: &[u8], at: usize) -> Option<[u8; N]>
+    ensures { MatchOption result (length bytes.now < at + N) (λ word. (at + N ≤ length bytes.now) × (word ≡ take N (drop at bytes.now))) }
 {
-    b as u64
+    bytes.get(at..)?.first_chunk().copied()
 }
 
-fn half_word(bytes: &[u8], at: usize) -> u64
-    requires { at + 4 ≤ length bytes.now }
-    ensures { (result ≡ little_endian (take 4 (drop at bytes.now))) × (result < 2 ^ 32) }
-{
-    wide(bytes[at])
-        + 256 * wide(bytes[at + 1])
-        + 65536 * wide(bytes[at + 2])
-        + 16777216 * wide(bytes[at + 3])
-}
-
-// The whole number of four bytes from a place on; 0 where they are not all there.
+// The whole number of four bytes from a place on; 0 where they are not all there, as the definition `word_at` has it.
 pub fn word_32(bytes: &[u8], at: usize) -> u32
     ensures { result ≡ word_at 4 bytes.now at }
 {
-    if bytes.len() < 4 {
-        return 0;
-    }
-    if bytes.len() - 4 < at {
-        return 0;
-    }
-    half_word(bytes, at) as u32
+    bytes_at(bytes, at).map_or(0, u32::from_le_bytes)
 }
 
-// The whole number of eight that are all there.
-fn whole_word(bytes: &[u8], at: usize) -> u64
-    requires { at + 8 ≤ length bytes.now }
-    ensures { result ≡ word_at 8 bytes.now at }
-{
-    half_word(bytes, at) + 4294967296 * half_word(bytes, at + 4)
-}
-
-// The whole number of eight.
+// The whole number of eight, which is of another type; what both share is above.
 pub fn word_64(bytes: &[u8], at: usize) -> u64
     ensures { result ≡ word_at 8 bytes.now at }
 {
-    if bytes.len() < 8 {
-        return 0;
-    }
-    if bytes.len() - 8 < at {
-        return 0;
-    }
-    whole_word(bytes, at)
+    bytes_at(bytes, at).map_or(0, u64::from_le_bytes)
 }
 
 // The number whose pattern they are.
@@ -65,15 +36,10 @@ pub fn number_at(bytes: &[u8], at: usize) -> f64
 pub fn load(bytes: &[u8], at: usize, out: &mut [f64])
     ensures { out.new ≡ loaded bytes.now at out.old }
 {
-    if bytes.len() < at {
-        return;
-    }
-    if (bytes.len() - at) / 8 < out.len() {
-        return;
-    }
-    let mut i: usize = 0;
-    while i < out.len() {
-        out[i] = from_bits(whole_word(bytes, at + 8 * i));
-        i += 1;
+    if at <= bytes.len() && out.len() <= (bytes.len() - at) / 8 {
+        let (words, _) = bytes[at..].as_chunks::<8>();
+        for (i, x) in out.iter_mut().enumerate() {
+            *x = from_bits(u64::from_le_bytes(words[i]));
+        }
     }
 }

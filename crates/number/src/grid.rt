@@ -1,69 +1,60 @@
 // The survey grid: metres to whole centimetres.
 ghost use Rattle.std.specs.Prelude.{◌≡◌};
-ghost use Rattle.number.specs.Answer.{reply};
-ghost use Rattle.number.specs.Grid.{placed, grid_call};
+ghost use Rattle.number.specs.Answer.{and_then, outcome, outcome_of, reply};
+ghost use Rattle.number.specs.Grid.{centimetres, coordinate_of, placed, grid_call};
+ghost use Rattle.number.specs.Slice.{at};
+ghost use Rattle.std.specs.Float.{binary64};
+ghost use Rattle.std.specs.Float.Ieee.{of_int};
 
-use crate::answer::{Refusal, Written};
+use crate::answer::Refusal;
 use crate::limits::{GRID_LIMIT, POINT_LENGTH};
+use crate::nearest;
+use crate::parts::Parts;
 use crate::slice::{at, store};
-use crate::{nearest, normalised};
-
-// A whole coordinate on the grid, or that it is off it.
-#[derive(Clone, Copy)]
-pub enum Coordinate {
-    On(i32),
-    Off,
-}
 
 // The whole coordinate nearest to a number of centimetres, of two the even one.
-pub fn whole(x: f64) -> Coordinate
+pub fn whole(x: f64) -> Option<i32>
     ensures { result ≡ placed x }
 {
-    if x != x {
-        return Coordinate::Off;
-    }
-    let bits = f64::to_bits(x);
-    let magnitude = bits & 0x7fff_ffff_ffff_ffff;
+    let parts = Parts::of(x)?;
+    let magnitude = parts.magnitude;
     // 2 ^ 17, above the grid's limit
-    if 0x4100_0000_0000_0000 <= magnitude {
-        return Coordinate::Off;
+    if 0x4100_0000_0000_0000 <= magnitude.bits {
+        return None;
     }
     // below a half
-    if magnitude < 0x3fe0_0000_0000_0000 {
-        return Coordinate::On(0);
+    if magnitude.bits < 0x3fe0_0000_0000_0000 {
+        return Some(0);
     }
-    let parts = normalised(magnitude);
-    let scale = parts.scale;
-    let size = nearest(parts.significand, 1126 - scale);
+    let scaled = magnitude.scaled();
+    let size = nearest(scaled.significand, 1126 - scaled.scale);
     if GRID_LIMIT < size {
-        return Coordinate::Off;
+        return None;
     }
-    if bits != magnitude {
-        return Coordinate::On(-(size as i32));
-    }
-    Coordinate::On(size as i32)
+    let size = size as i32;
+    Some(if parts.negative { -size } else { size })
+}
+
+// The number at a place of a point in metres, on the grid.
+fn coordinate(p: &[f64], place: usize) -> Result<f64, Refusal>
+    ensures { outcome_of result ≡ and_then (coordinate_of (placed (centimetres (at p.now place)))) (λ z. outcome (of_int binary64 z)) }
+{
+    whole(at(p, place) * 100.0)
+        .map(f64::from)
+        .ok_or(Refusal::OffGrid)
 }
 
 // The grid point of a point in metres.
-pub fn grid(p: &[f64], out: &mut [f64]) -> Written
+pub fn grid(p: &[f64], out: &mut [f64]) -> Result<(), Refusal>
     ensures { reply result out.new ≡ grid_call p.now out.old }
 {
     if p.len() != POINT_LENGTH {
-        return Written::Refused(Refusal::InputLength);
+        return Err(Refusal::InputLength);
     }
     if out.len() != POINT_LENGTH {
-        return Written::Refused(Refusal::OutputLength);
+        return Err(Refusal::OutputLength);
     }
-    let Coordinate::On(x) = whole(at(p, 0) * 100.0) else {
-        return Written::Refused(Refusal::OffGrid);
-    };
-    let Coordinate::On(y) = whole(at(p, 1) * 100.0) else {
-        return Written::Refused(Refusal::OffGrid);
-    };
-    let Coordinate::On(z) = whole(at(p, 2) * 100.0) else {
-        return Written::Refused(Refusal::OffGrid);
-    };
-    let point = [x as f64, y as f64, z as f64];
+    let point = [coordinate(p, 0)?, coordinate(p, 1)?, coordinate(p, 2)?];
     store(&point, out);
-    Written::Done
+    Ok(())
 }

@@ -1,9 +1,9 @@
 // Numbers by their bits, the survey grid, and the answers and refusals of the whole engine.
 #![tactic(auto)]
 
-ghost use Rattle.std.specs.Prelude.{◌≡◌, ◌^◌, ◌<◌, ◌≤◌};
+ghost use Rattle.std.specs.Prelude.{MatchOption, true, if◌then◌else◌, is_nan, ◌≡◌, ◌^◌, ◌<◌, ◌≤◌};
 ghost use Rattle.std.specs.Float.Ieee.Nearest.{closest};
-ghost use Rattle.number.specs.Steps.Magnitude.{Normalised};
+ghost use Rattle.number.specs.Steps.Magnitude.{Normalised, PartsOf};
 
 pub mod answer;
 pub mod bytes;
@@ -11,34 +11,57 @@ pub mod format;
 pub mod grid;
 pub mod limits;
 pub mod order;
+mod parts;
 pub mod root;
 pub mod slice;
 pub mod slots;
 
-// A magnitude taken apart: significand * 2 ^ (scale - 52) smallest values.
-#[derive(Clone, Copy)]
-struct Scaled {
-    significand: u64,
-    scale: u64,
+use parts::{Magnitude, Parts, Scaled};
+
+// One of two. It is compiled to a choice; a branch would be mispredicted every other time.
+fn either<T: Copy>(first: bool, a: T, b: T) -> T
+    ensures { result ≡ (if first then a else b) }
+{
+    if first { a } else { b }
 }
 
-// The fields of a magnitude above zero that is no NaN's, the leading digit of its significand at 2 ^ 52. Infinity has those of 2 ^ 1024.
-fn normalised(magnitude: u64) -> Scaled
-    requires { (0 < magnitude) × (magnitude ≤ 0x7ff0_0000_0000_0000) }
-    ensures { Normalised magnitude result }
-{
-    let field = magnitude >> 52;
-    let fraction = magnitude & 0x000f_ffff_ffff_ffff;
-    if field == 0 {
-        let zeros = u64::leading_zeros(fraction) as u64 - 11;
-        return Scaled {
-            significand: fraction << zeros,
-            scale: 52 - zeros,
-        };
+impl Parts {
+    // A NaN has none.
+    fn of(x: f64) -> Option<Parts>
+        ensures { MatchOption result (is_nan x ≡ true) (λ parts. PartsOf x parts) }
+    {
+        if x.is_nan() {
+            return None;
+        }
+        let bits = x.to_bits();
+        Some(Parts {
+            negative: 0x8000_0000_0000_0000 <= bits,
+            magnitude: Magnitude {
+                bits: bits & 0x7fff_ffff_ffff_ffff,
+            },
+        })
     }
-    Scaled {
-        significand: 0x0010_0000_0000_0000 + fraction,
-        scale: field + 51,
+}
+
+impl Magnitude {
+    // The fields of a magnitude above zero. Infinity has those of 2 ^ 1024.
+    fn scaled(self) -> Scaled
+        requires { 0 < self.bits }
+        ensures { Normalised self.bits result }
+    {
+        let field = self.bits >> 52;
+        let fraction = self.bits & 0x000f_ffff_ffff_ffff;
+        if field == 0 {
+            let zeros = u64::from(fraction.leading_zeros()) - 11;
+            return Scaled {
+                significand: fraction << zeros,
+                scale: 52 - zeros,
+            };
+        }
+        Scaled {
+            significand: 0x0010_0000_0000_0000 + fraction,
+            scale: field + 51,
+        }
     }
 }
 

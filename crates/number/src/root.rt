@@ -1,22 +1,13 @@
 // The square root, by the bits of a number.
-ghost use Rattle.std.specs.Prelude.{◌≡◌, ◌+◌, ◌*◌, ◌^◌, ◌<◌, ◌≤◌, if◌then◌else◌, from_bits};
+ghost use Rattle.std.specs.Prelude.{◌≡◌, ◌+◌, ◌*◌, ◌^◌, ◌<◌, ◌≤◌, from_bits};
 ghost use Rattle.std.specs.Float.{binary64};
 ghost use Rattle.number.specs.Root.{round_root, sqrt_of};
 ghost use Rattle.number.specs.Search.{AfterBit, RootFound, Tried};
 ghost use Rattle.number.specs.Steps.Magnitude.{units_of};
 ghost use Rattle.number.specs.Steps.Root.{root_digits};
 
-use crate::{nearest, normalised};
-
-// One of two numbers. It is compiled to a choice; a branch would be mispredicted every other time.
-fn either(first: bool, a: u64, b: u64) -> u64
-    ensures { result ≡ (if first then a else b) }
-{
-    if first {
-        return a;
-    }
-    b
-}
+use crate::parts::{Magnitude, Parts, Scaled};
+use crate::{either, nearest};
 
 // A search for a root between two bits. With r the root so far and b the bit just tried, trial is 4 * r + b, and left is four times the remainder.
 #[derive(Clone, Copy)]
@@ -47,7 +38,7 @@ impl PartialRoot {
         // both next trials first, so that the choices follow the difference at once
         let refused = trial - (bit >> 1);
         let kept = refused + 2 * bit;
-        let difference = std::num::wrapping_sub_u64(left, trial);
+        let difference = left.wrapping_sub(trial);
         let fits = difference < 0x8000_0000_0000_0000;
         PartialRoot {
             trial: either(fits, kept, refused),
@@ -56,11 +47,11 @@ impl PartialRoot {
     }
 }
 
-// The whole part of a root, and 1 where something is left of the number searched.
+// The whole part of a root, and whether something is left of the number searched.
 #[derive(Clone, Copy)]
 struct WholeRoot {
     root: u64,
-    rest: u64,
+    inexact: bool,
 }
 
 // The root of number * 2 ^ 53, the first bit and then a bit at a time. Where nothing is left the bits to come are zeros.
@@ -68,71 +59,68 @@ fn search(number: u64) -> WholeRoot
     requires { (2 ^ 53 ≤ number) × (number < 2 ^ 55) }
     ensures { RootFound (number * 2 ^ 53) result }
 {
-    let first = PartialRoot::first(number);
+    let mut partial = PartialRoot::first(number);
     let mut bit: u64 = 0x0020_0000_0000_0000;
-    let mut trial = first.trial;
-    let mut left = first.left;
+    // a range would count the places, and shift a bit to each
     while 1 < bit {
-        if left == 0 {
+        if partial.left == 0 {
             return WholeRoot {
-                root: (trial - bit) >> 2,
-                rest: 0,
+                root: (partial.trial - bit) >> 2,
+                inexact: false,
             };
         }
-        let next = PartialRoot { trial, left }.tried(bit);
-        bit = bit >> 1;
-        trial = next.trial;
-        left = next.left;
+        partial = partial.tried(bit);
+        bit >>= 1;
     }
-    let root = trial >> 2;
-    if left == 0 {
-        return WholeRoot { root, rest: 0 };
+    WholeRoot {
+        root: partial.trial >> 2,
+        inexact: partial.left != 0,
     }
-    WholeRoot { root, rest: 1 }
 }
 
-// The significand of the rounded root, by a number's own and its scale.
-fn root_digits(significand: u64, scale: u64) -> u64
-    requires { (2 ^ 52 ≤ significand) × (significand < 2 ^ 53) }
-    ensures { result ≡ root_digits significand scale }
-{
-    let odd = scale % 2;
-    let square = 0x0010_0000_0000_0000 << odd;
-    // beside a power of 4, such as 1, by less than 2 ^ 26 of the last digits: half way to that power's significand, rounded down
-    if (square < significand + 0x0400_0000) & (significand < square + 0x0400_0000) {
-        return (square + significand) >> 1;
+impl Scaled {
+    // The significand of the rounded root.
+    fn root_digits(self) -> u64
+        ensures { result ≡ root_digits self.significand self.scale }
+    {
+        let odd = self.scale % 2;
+        let square = 0x0010_0000_0000_0000 << odd;
+        // beside a power of 4, such as 1, by less than 2 ^ 26 of the last digits: half way to that power's significand, rounded down
+        if (square < self.significand + 0x0400_0000) & (self.significand < square + 0x0400_0000) {
+            return (square + self.significand) >> 1;
+        }
+        let found = search(self.significand << (1 + odd));
+        nearest(2 * found.root + u64::from(found.inexact), 2)
     }
-    let found = search(significand << (1 + odd));
-    nearest(2 * found.root + found.rest, 2)
 }
 
-// The bits of the rounded root of a finite magnitude above zero.
-fn root_bits(magnitude: u64) -> u64
-    requires { (0 < magnitude) × (magnitude < 0x7ff0_0000_0000_0000) }
-    ensures { from_bits binary64 result ≡ round_root binary64 (units_of binary64 magnitude * 2 ^ 1074) }
-{
-    let parts = normalised(magnitude);
-    let scale = parts.scale;
-    ((scale / 2 + 485) << 52) + root_digits(parts.significand, scale)
+impl Magnitude {
+    // The bits of the rounded root, of a finite magnitude above zero.
+    fn root(self) -> u64
+        requires { (0 < self.bits) × (self.bits < 0x7ff0_0000_0000_0000) }
+        ensures { from_bits binary64 result ≡ round_root binary64 (units_of binary64 self.bits * 2 ^ 1074) }
+    {
+        let scaled = self.scaled();
+        ((scaled.scale / 2 + 485) << 52) + scaled.root_digits()
+    }
 }
 
 // squareRoot of IEEE 754, clause 5.4.1.
 pub fn sqrt(x: f64) -> f64
     ensures { result ≡ sqrt_of binary64 x }
 {
-    if x != x {
+    let Some(parts) = Parts::of(x) else {
+        return x;
+    };
+    let magnitude = parts.magnitude;
+    if magnitude.bits == 0 {
         return x;
     }
-    let bits = f64::to_bits(x);
-    let magnitude = bits & 0x7fff_ffff_ffff_ffff;
-    if magnitude == 0 {
+    if parts.negative {
+        return f64::NAN;
+    }
+    if 0x7ff0_0000_0000_0000 <= magnitude.bits {
         return x;
     }
-    if bits != magnitude {
-        return 0.0 / 0.0;
-    }
-    if 0x7ff0_0000_0000_0000 <= magnitude {
-        return x;
-    }
-    f64::from_bits(root_bits(magnitude))
+    f64::from_bits(magnitude.root())
 }

@@ -2,14 +2,11 @@
 ghost use Rattle.std.specs.Prelude.{◌≡◌};
 ghost use Rattle.number.specs.Slice.{at, all_finite, stored_at, stored};
 
-// The number at a place; past the end a NaN.
+// The number at a place; past the end a NaN, as the definition `at` has it, which the definitions of every operation read their records by.
 pub fn at(s: &[f64], i: usize) -> f64
     ensures { result ≡ at s.now i }
 {
-    if i < s.len() {
-        return s[i];
-    }
-    0.0 / 0.0
+    s.get(i).copied().unwrap_or(f64::NAN)
 }
 
 // Whether none is a NaN or an infinity: zero times either is a NaN, and times any other number a zero. It looks at all, so that no branch waits for a number and
@@ -18,11 +15,8 @@ pub fn all_finite(s: &[f64]) -> bool
     ensures { result ≡ all_finite s.now }
 {
     let mut all = true;
-    let mut place: usize = 0;
-    while place < s.len() {
-        let x = s[place];
-        all = all & (x * 0.0 == 0.0);
-        place += 1;
+    for x in s {
+        all &= *x * 0.0 == 0.0;
     }
     all
 }
@@ -31,16 +25,8 @@ pub fn all_finite(s: &[f64]) -> bool
 pub fn store_at(from: &[f64], out: &mut [f64], first: usize)
     ensures { out.new ≡ stored_at from.now first out.old }
 {
-    if out.len() < first {
-        return;
-    }
-    if out.len() - first < from.len() {
-        return;
-    }
-    let mut i: usize = 0;
-    while i < from.len() {
-        out[first + i] = from[i];
-        i += 1;
+    if first <= out.len() && from.len() <= out.len() - first {
+        out[first..first + from.len()].copy_from_slice(from);
     }
 }
 
@@ -48,8 +34,7 @@ pub fn store_at(from: &[f64], out: &mut [f64], first: usize)
 pub fn store(from: &[f64], out: &mut [f64])
     ensures { out.new ≡ stored from.now out.old }
 {
-    if from.len() != out.len() {
-        return;
+    if from.len() == out.len() {
+        out.copy_from_slice(from);
     }
-    store_at(from, out, 0);
 }

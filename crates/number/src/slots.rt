@@ -2,16 +2,12 @@
 ghost use Rattle.std.specs.Prelude.{◌≡◌, length, replicate};
 ghost use Rattle.number.specs.Slots.{unused};
 
-// What stands in an unused slot.
+// What stands in an unused slot, by the C interface.
 pub const UNUSED: u32 = 4294967295;
 
 // Every slot unused.
 pub fn clear(out: &mut [u32])
     ensures { out.new ≡ replicate (length out.old) unused }
 {
-    let mut i: usize = 0;
-    while i < out.len() {
-        out[i] = UNUSED;
-        i += 1;
-    }
+    out.fill(UNUSED);
 }

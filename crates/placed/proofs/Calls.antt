@@ -2,11 +2,10 @@
 -- allowed. Assumes nothing.
 use mathlib.Core.Path.{◌≡◌, refl, sym, ap, subst, ◌∙◌}
 use mathlib.Core.Logic.{inl, inr}
-use mathlib.Core.Bool.{Bool, true, false, not, ◌&&◌}
+use mathlib.Core.Bool.{Bool, true, false, ◌&&◌}
 use mathlib.Core.List.{List}
 use Prim.Native.Nat.{ℕ, zero, suc, ◌-◌, ◌≤◌, ◌<◌}
 use native.Mathlib.Omega.{arith}
-use borrow.Author.Tests.{not-false}
 use lib.Dec.{T, lit<}
 use lib.ListN.{length, length-map, get_or-map, take, replicate}
 use lib.Seq.{length-take-le, get_or-take}
@@ -43,19 +42,6 @@ box_numbers_lem b l e =
       small = λ i h. subst (λ (z : ℤ). nat_abs z ≤ distance_limit) (sym (number_of (box_numbers b) i))
           (whole_small (at (box_numbers b) i) (each is_whole_number (box_numbers b) i nan e (omega (arith, n))));
     }
-
--- of a slice that they were loaded into
-pub record Loaded (b : List Float) (out : List ℤ) : Type 0 where
-  pub whole : are_whole_numbers (box_numbers b) ≡ true
-  pub same : out ≡ whole_numbers (box_numbers b)
-  pub box : BoxNumbers out
-
-pub loaded : (b : List Float) (r : Bool) (out : List ℤ) → length b ≡ box_length → r ≡ are_whole_numbers (box_numbers b) → (r ≡ true → out ≡ whole_numbers (box_numbers b))
-    → not r ≡ false → Loaded b out
-loaded b r out l e f n =
-    let t = not-false r n in
-    let w = sym e ∙ t in
-    record { whole = w; same = f t; box = subst BoxNumbers (sym (f t)) (box_numbers_lem b l w) }
 
 -- ---- the placed box is on the grid where its least and its greatest corner are
 

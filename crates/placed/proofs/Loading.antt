@@ -33,28 +33,23 @@ module _ (from : List Float) (n : ℕ) (h : n ≤ length from) where
   front_length : length front ≡ n
   front_length = length-take-le n from h
 
+  pub one_of : (i : ℕ) → i < n → are_whole_numbers front ≡ true → is_whole_number (get_or from i nan) ≡ true
+  one_of i l e = subst (λ (x : Float). is_whole_number x ≡ true) (get_or-take n from i nan l) (each is_whole_number front i nan e (omega (arith, front_length)))
+
+-- all are tested
+module _ (s : List Float) where
   -- one more
-  module _ (i : ℕ) (l : i < n) where
-    split : drop i front ≡ get_or from i nan ∷ drop (i + 1) front
-    split =
-        drop-cons front i nan (omega (arith, front_length))
-        ∙ (λ t. get_or-take n from i nan l t ∷ drop (sym (add-one i) t) front)
-
-    pub more : (all r : Bool) → r ≡ is_whole_number (get_or from i nan) → ((all && r) && are_whole_numbers (drop (i + 1) front)) ≡ (all && are_whole_numbers (drop i front))
-    unfolding every
-    more all r e =
-        regrouped all r (are_whole_numbers (drop (i + 1) front))
-        ∙ (λ t. all && (e t && are_whole_numbers (drop (i + 1) front)))
-        ∙ sym (ap (λ (s : List Float). all && are_whole_numbers s) split)
-
-    pub one_of : are_whole_numbers front ≡ true → is_whole_number (get_or from i nan) ≡ true
-    one_of e = subst (λ (x : Float). is_whole_number x ≡ true) (get_or-take n from i nan l) (each is_whole_number front i nan e (omega (arith, front_length)))
+  pub more : (i : ℕ) → i < length s → (all r : Bool) → r ≡ is_whole_number (get_or s i nan) → ((all && r) && are_whole_numbers (drop (i + 1) s)) ≡ (all && are_whole_numbers (drop i s))
+  unfolding every
+  more i l all r e =
+      regrouped all r (are_whole_numbers (drop (i + 1) s))
+      ∙ (λ t. all && (e t && are_whole_numbers (drop (i + 1) s)))
+      ∙ sym (ap (λ (s : List Float). all && are_whole_numbers s) (drop-cons s i nan l ∙ (λ t. get_or s i nan ∷ drop (sym (add-one i) t) s)))
 
   -- none is left
-  pub done : (i : ℕ) (all : Bool) → i ≡ n → (all && are_whole_numbers (drop i front)) ≡ are_whole_numbers front → all ≡ are_whole_numbers front
+  pub done : (i : ℕ) (all : Bool) → i ≡ length s → (all && are_whole_numbers (drop i s)) ≡ are_whole_numbers s → all ≡ are_whole_numbers s
   unfolding every
-  done i all l p =
-      sym (and_true all) ∙ sym (ap (λ (s : List Float). all && are_whole_numbers s) (ap (λ (k : ℕ). drop k front) (l ∙ sym front_length) ∙ drop-length front)) ∙ p
+  done i all l p = sym (and_true all) ∙ sym (ap (λ (s : List Float). all && are_whole_numbers s) (ap (λ (k : ℕ). drop k s) l ∙ drop-length s)) ∙ p
 
 -- those that there is room for, stored
 module _ (from : List Float) (room : List ℤ) (h : length room ≤ length from) where

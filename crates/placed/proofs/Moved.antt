@@ -1,12 +1,11 @@
 -- The placed box of a record on the grid: its numbers as the code reads them are those of its definition, and they are small. Assumes nothing.
-use mathlib.Core.Path.{◌≡◌, refl, ap, subst, sym, ◌∙◌}
+use mathlib.Core.Path.{◌≡◌, ap, subst, sym, ◌∙◌}
 use mathlib.Core.Bool.{true, ◌&&◌}
-use mathlib.Core.List.{List, [], ◌∷◌}
+use mathlib.Core.List.{List}
 use Prim.Native.Nat.{ℕ, zero, suc, ◌+◌, ◌*◌, ◌≤◌, ◌<◌}
 use native.Mathlib.Omega.{arith}
 use borrow.Author.Tests.{leb-true, eqb-true}
 use lib.Dec.{eqb}
-use lib.ListN.{length, set}
 use lib.IntN.{ℤ, pos, nat_abs, ◌+ℤ◌, ◌*ℤ◌}
 use lib.Signed.{le_z}
 use Rattle.number.specs.Limits.{grid_limit, distance_limit}
@@ -14,9 +13,9 @@ use Rattle.number.proofs.Tests.{both_hold}
 use Rattle.whole.specs.Plane.{dotℤ}
 use Rattle.whole.specs.SegmentCall.{number_at, within}
 use Rattle.whole.proofs.Integer.{min_ind, max_ind}
-use Rattle.placed.specs.declared.placement.Vec3i.{Vec3i}
 use Rattle.placed.specs.Placement.{WholeBox, box_of, movedℤ, columnℤ, sizes, placed_least, placed_greatest, same_number, grid_along, quarter_turned}
-use Rattle.placed.specs.Steps.{vec_of, vec, Sized, corner_at, column_at, BoxNumbers, Placing}
+use Rattle.exact.specs.Steps.{Vec3i, vec_of, Sized}
+use Rattle.placed.specs.Steps.{corner_at, column_at, BoxNumbers, Placing}
 use Rattle.placed.proofs.Registers.{R, kept_as, moved_small}
 
 -- ---- a column, as the code finds it
@@ -43,13 +42,6 @@ module _ (s : List ℤ) (from j : ℕ) where
 -- ---- sizes of what is read
 pub sized_read : {b : ℕ} {u v : Vec3i} → u ≡ v → Sized b v → Sized b u
 sized_read {b} e h = subst (Sized b) (sym e) h
-
-pub box_sized : {s : List ℤ} → BoxNumbers s → (from apart : ℕ) → from + 2 * apart < 22 → Sized distance_limit (vec (λ k. number_at s (from + k * apart)))
-box_sized b from apart h = record {
-  x = b.small (from + 0 * apart) (omega arith);
-  y = b.small (from + 1 * apart) (omega arith);
-  z = b.small (from + 2 * apart) h;
-}
 
 module _ {s : List ℤ} (P : Placing s) (j : ℕ) (h : j < 3) where
   pub low_small : nat_abs (movedℤ (box_of s).matrix (box_of s).low j) ≤ distance_limit
@@ -137,14 +129,3 @@ placing {s} b e =
     sized j e =
         let f : nat_abs (number_at s (6 + j + 0 * 4)) + nat_abs (number_at s (6 + j + 1 * 4)) + nat_abs (number_at s (6 + j + 2 * 4)) ≡ 1 = column_sizes s j ∙ e in
         record { x = omega arith; y = omega arith; z = omega arith }
-
--- ---- six numbers put into a slice of six
-pub six_put : (w : List ℤ) (a b c d e f : ℤ) → length w ≡ 6 → set (set (set (set (set (set w 0 a) 1 b) 2 c) 3 d) 4 e) 5 f ≡ a ∷ b ∷ c ∷ d ∷ e ∷ f ∷ []
-six_put [] a b c d e f h = absurd (omega (arith, h))
-six_put (x ∷ []) a b c d e f h = absurd (omega (arith, h))
-six_put (x ∷ y ∷ []) a b c d e f h = absurd (omega (arith, h))
-six_put (x ∷ y ∷ z ∷ []) a b c d e f h = absurd (omega (arith, h))
-six_put (x ∷ y ∷ z ∷ u ∷ []) a b c d e f h = absurd (omega (arith, h))
-six_put (x ∷ y ∷ z ∷ u ∷ v ∷ []) a b c d e f h = absurd (omega (arith, h))
-six_put (x ∷ y ∷ z ∷ u ∷ v ∷ w ∷ []) a b c d e f h = refl
-six_put (x ∷ y ∷ z ∷ u ∷ v ∷ w ∷ r ∷ ws) a b c d e f h = absurd (omega (arith, h))

@@ -10,8 +10,7 @@ use mir.Val.{SFits, to_z, of_z}
 use Rattle.number.specs.Limits.{grid_limit, distance_limit}
 use Rattle.whole.specs.Plane.{dotℤ}
 use Rattle.whole.proofs.Registers.{Held, held_fits, read, itself, held_times, held_sum}
-use Rattle.placed.specs.declared.placement.Vec3i.{Vec3i}
-use Rattle.placed.specs.Steps.{vec_of, Sized}
+use Rattle.exact.specs.Steps.{Vec3i, vec_of, Sized}
 
 -- a number, written and read again
 abbrev pub R : ℤ → ℤ
@@ -55,12 +54,6 @@ module _ {u v : Vec3i} (t : ℤ) (U : Sized grid_limit u) (W : Sized 1 v) (S : n
   four : Held (R (R (R (R u.x *ℤ R v.x) +ℤ R (R u.y *ℤ R v.y)) +ℤ R (R u.z *ℤ R v.z)) +ℤ R t) (dotℤ (vec_of u) (vec_of v) +ℤ t)
       (grid_limit * 1 + grid_limit * 1 + grid_limit * 1 + grid_limit)
   four = held_sum (again (lit≤ tt) three) (again (lit≤ tt) (itself t S))
-
-  pub first_fits : SFits w32 (R u.x *ℤ R v.x)
-  first_fits = fits (lit≤ tt) along_x
-
-  pub second_fits : SFits w32 (R u.y *ℤ R v.y)
-  second_fits = fits (lit≤ tt) along_y
 
   pub third_fits : SFits w32 (R u.z *ℤ R v.z)
   third_fits = fits (lit≤ tt) along_z

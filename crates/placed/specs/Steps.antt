@@ -1,29 +1,15 @@
 -- What the private functions are given and answer. They serve the contracts of private functions; the verdict's definition does not speak of them. Definitions only.
-use Rattle.std.specs.Prelude.{◌≡◌, List, [], ◌∷◌, ℕ, zero, suc, ◌+◌, ◌*◌, ◌≤◌, ◌<◌, length, ℤ, pos, nat_abs, Float}
+use Rattle.std.specs.Prelude.{◌≡◌, List, [], ◌∷◌, ℕ, ◌+◌, ◌*◌, ◌≤◌, ◌<◌, length, ℤ, pos, nat_abs, Float}
 use Rattle.number.specs.Limits.{flag_place, grid_limit, distance_limit, fewest_planes, most_planes}
 use Rattle.number.specs.Slice.{at}
 use Rattle.verdict.specs.View.{volume_length}
 use Rattle.whole.specs.SegmentCall.{number_at}
-use Rattle.placed.specs.declared.placement.Vec3i.{Vec3i}
+use Rattle.exact.specs.Steps.{Vec3i, vec, Sized}
 use Rattle.placed.specs.Numbers.{truncated}
 use Rattle.placed.specs.Placement.{WholeBox, placed_least, placed_greatest}
 use Rattle.placed.specs.BBoxCall.{count_in}
 
 -- ---- values of the code
-
-abbrev pub vec_of : Vec3i → ℕ → ℤ
-vec_of v zero = v.x
-vec_of v (suc zero) = v.y
-vec_of v (suc (suc i)) = v.z
-
-abbrev pub vec : (ℕ → ℤ) → Vec3i
-vec f = record { x = f 0; y = f 1; z = f 2 }
-
--- three numbers of size at most b
-pub record Sized (b : ℕ) (v : Vec3i) : Type 0 where
-  pub x : nat_abs v.x ≤ b
-  pub y : nat_abs v.y ≤ b
-  pub z : nat_abs v.z ≤ b
 
 -- the least corner of the placed box, then the greatest
 abbrev pub placed_bounds : WholeBox → List ℤ

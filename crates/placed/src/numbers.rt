@@ -1,6 +1,9 @@
 // Floats that are whole numbers of the farm grid.
-ghost use Rattle.std.specs.Prelude.{◌≡◌, true, ◌≤◌, length, take};
+ghost use Rattle.std.specs.Prelude.{◌≡◌, true, false, ◌≤◌, length, take, MatchResult};
+ghost use Rattle.number.specs.Answer.{number_of};
 ghost use Rattle.placed.specs.Numbers.{truncated, is_whole_number, are_whole_numbers, whole_numbers};
+
+use number::answer::Refusal;
 
 // Halfway from 2^52 to 2^53, where the floats are the whole numbers: what is added to it comes out whole, and is the same after the subtraction where it was.
 const HALFWAY: f64 = 6755399441055744.0;
@@ -26,33 +29,29 @@ fn whole_of(x: f64) -> i32
     (x + HALFWAY - HALFWAY) as i32
 }
 
-// Whether so many numbers in front of a slice are whole. It looks at all, as `all_finite` does.
-fn are_whole(s: &[f64], n: usize) -> bool
-    requires { n ≤ length s.now }
-    ensures { result ≡ are_whole_numbers (take n s.now) }
+// Whether all are whole. It looks at all, as `all_finite` does.
+fn are_whole(s: &[f64]) -> bool
+    ensures { result ≡ are_whole_numbers s.now }
 {
     let mut all = true;
-    let mut i: usize = 0;
-    while i < n {
-        all = all & is_whole(s[i]);
-        i += 1;
+    for x in s {
+        all = all & is_whole(*x);
     }
     all
 }
 
-// Whether as many numbers in front of a slice as another has room for are whole; and these, where they are.
-pub(crate) fn load(from: &[f64], out: &mut [i32]) -> bool
+// As many numbers in front of a slice as another has room for, into that one, where they are whole.
+pub(crate) fn load(from: &[f64], out: &mut [i32]) -> Result<(), Refusal>
     requires { length out.old ≤ length from.now }
-    ensures { (result ≡ are_whole_numbers (take (length out.old) from.now))
-        × (result ≡ true → out.new ≡ whole_numbers (take (length out.old) from.now)) }
+    ensures { let front = take (length out.old) from.now in MatchResult result
+        (λ _. (are_whole_numbers front ≡ true) × (out.new ≡ whole_numbers front))
+        (λ refusal. (are_whole_numbers front ≡ false) × (number_of refusal ≡ 7)) }
 {
-    if !are_whole(from, out.len()) {
-        return false;
+    if !are_whole(&from[..out.len()]) {
+        return Err(Refusal::OffGrid);
     }
-    let mut i: usize = 0;
-    while i < out.len() {
-        out[i] = whole_of(from[i]);
-        i += 1;
+    for (i, number) in out.iter_mut().enumerate() {
+        *number = whole_of(from[i]);
     }
-    true
+    Ok(())
 }

@@ -1,166 +1,116 @@
 // A box in whole numbers: whether its range and its matrix are a grid box's, and where it is placed.
-ghost use Rattle.std.specs.Prelude.{◌≡◌, ◌+◌, ◌*◌, ◌≤◌, ◌<◌, eqb, length, nat_abs, ◌+ℤ◌};
-ghost use Rattle.std.specs.Int.Signed.{le_z};
-ghost use Rattle.number.specs.Limits.{flag_place, distance_limit, grid_limit};
+ghost use Rattle.std.specs.Prelude.{◌≡◌, true, false, ◌+◌, ◌*◌, ◌≤◌, ◌<◌, eqb, length, nat_abs, ◌+ℤ◌, MatchResult};
+ghost use Rattle.number.specs.Answer.{number_of};
+ghost use Rattle.number.specs.Limits.{flag_place, box_length, distance_limit, grid_limit};
 ghost use Rattle.whole.specs.Plane.{dotℤ};
 ghost use Rattle.whole.specs.SegmentCall.{number_at};
-ghost use Rattle.placed.specs.Placement.{sizes, smaller, larger, box_of, placed_least, placed_greatest, same_number, grid_along, quarter_turned};
-ghost use Rattle.placed.specs.Steps.{vec_of, vec, Sized, placed_bounds, BoxNumbers, Placing};
+ghost use Rattle.exact.specs.Steps.{vec_of, vec, Sized};
+ghost use Rattle.placed.specs.Numbers.{are_whole_numbers, whole_numbers};
+ghost use Rattle.placed.specs.Placement.{sizes, box_of, placed_least, placed_greatest, grid_along, quarter_turned};
+ghost use Rattle.placed.specs.BBoxCall.{box_numbers};
+ghost use Rattle.placed.specs.Steps.{placed_bounds, BoxNumbers, Placing};
 
+use crate::numbers::load;
+use exact::vec::Vec3;
+use number::answer::Refusal;
+use number::limits::{FLAG_PLACE, RANGE_LENGTH};
 use whole::view::on_grid;
 
-// Three numbers, by axis.
-#[derive(Clone, Copy)]
-pub struct Vec3i {
-    pub x: i32,
-    pub y: i32,
-    pub z: i32,
-}
-
-// A number of a record.
-fn number(s: &[i32], i: usize) -> i32
-    requires { BoxNumbers s.now × (i < flag_place) }
-    ensures { result ≡ number_at s.now i }
+// Whether one of them is 1 or -1, and the others are 0.
+fn is_single(v: Vec3<i32>) -> bool
+    requires { Sized distance_limit v }
+    ensures { result ≡ eqb (sizes (vec_of v)) 1 }
 {
-    s[i]
+    v.x.unsigned_abs() + v.y.unsigned_abs() + v.z.unsigned_abs() == 1
 }
 
-// Three numbers of a record, so many places apart.
-fn vec_at(s: &[i32], from: usize, apart: usize) -> Vec3i
-    requires { BoxNumbers s.now × (from + 2 * apart < flag_place) }
-    ensures { result ≡ vec (λ k. number_at s.now (from + k * apart)) }
+// A point along an axis of a placement: by the column of its turn, and its translation.
+fn moved(point: Vec3<i32>, column: Vec3<i32>, translation: i32) -> i32
+    requires { Sized grid_limit point × Sized 1 column × (nat_abs translation ≤ grid_limit) }
+    ensures { result ≡ dotℤ (vec_of point) (vec_of column) +ℤ translation }
 {
-    Vec3i {
-        x: number(s, from),
-        y: number(s, from + apart),
-        z: number(s, from + 2 * apart),
-    }
+    point.x * column.x + point.y * column.y + point.z * column.z + translation
 }
 
-// The size of a number.
-fn size(x: i32) -> u32
-    requires { nat_abs x ≤ distance_limit }
-    ensures { result ≡ nat_abs x }
-{
-    if x < 0 {
-        return (-x) as u32;
-    }
-    x as u32
+// The numbers in front of a box's flag: a range, and the matrix that places it.
+#[derive(Drop)]
+pub(crate) struct Placement {
+    pub numbers: [i32; FLAG_PLACE],
+    pub ghost small: { BoxNumbers numbers },
 }
 
-// Whether two numbers are the same.
-fn same_number(x: i32, y: i32) -> bool
-    ensures { result ≡ same_number x y }
-{
-    (x <= y) & (y <= x)
-}
-
-// Whether the first is not past the second.
-fn ordered(x: i32, y: i32) -> bool
-    ensures { result ≡ le_z x y }
-{
-    x <= y
-}
-
-fn smaller(x: i32, y: i32) -> i32
-    ensures { result ≡ smaller x y }
-{
-    if y < x {
-        return y;
-    }
-    x
-}
-
-fn larger(x: i32, y: i32) -> i32
-    ensures { result ≡ larger x y }
-{
-    if x < y {
-        return y;
-    }
-    x
-}
-
-impl Vec3i {
-    // Whether one of them is 1 or -1, and the others are 0.
-    fn is_single(self) -> bool
-        requires { Sized distance_limit self }
-        ensures { result ≡ eqb (sizes (vec_of self)) 1 }
+impl Placement {
+    // Of a box's record, where these numbers are whole.
+    pub(crate) fn of(bbox: &[f64]) -> Result<Placement, Refusal>
+        requires { length bbox.now ≡ box_length }
+        ensures { MatchResult result
+            (λ placement. (are_whole_numbers (box_numbers bbox.now) ≡ true) × (placement.numbers ≡ whole_numbers (box_numbers bbox.now)))
+            (λ refusal. (are_whole_numbers (box_numbers bbox.now) ≡ false) × (number_of refusal ≡ 7)) }
     {
-        size(self.x) + size(self.y) + size(self.z) == 1
+        let mut numbers = [0; FLAG_PLACE];
+        load(bbox, &mut numbers)?;
+        Ok(Placement { numbers })
     }
 
-    // A point along an axis of a placement: by the column of its turn, and its translation.
-    fn moved(self, column: Vec3i, translation: i32) -> i32
-        requires { Sized grid_limit self × Sized 1 column × (nat_abs translation ≤ grid_limit) }
-        ensures { result ≡ dotℤ (vec_of self) (vec_of column) +ℤ translation }
+    // Three of them, so many places apart.
+    fn vec_at(&self, from: usize, apart: usize) -> Vec3<i32>
+        requires { from + 2 * apart < flag_place }
+        ensures { result ≡ vec (λ k. number_at self.now.numbers (from + k * apart)) }
     {
-        self.x * column.x + self.y * column.y + self.z * column.z + translation
+        Vec3 {
+            x: self.numbers[from],
+            y: self.numbers[from + apart],
+            z: self.numbers[from + 2 * apart],
+        }
     }
-}
 
-// Whether along an axis the range is on the grid and not empty, and the matrix a quarter-turn placement's.
-fn grid_along(s: &[i32], i: usize) -> bool
-    requires { BoxNumbers s.now × (i < 3) }
-    ensures { result ≡ grid_along (box_of s.now) i }
-{
-    let low = number(s, i);
-    let high = number(s, 3 + i);
-    let row = vec_at(s, 6 + i * 4, 1);
-    let column = vec_at(s, 6 + i, 4);
-    let translation = number(s, 18 + i);
-    let last = number(s, 9 + i * 4);
-    on_grid(low)
-        & on_grid(high)
-        & ordered(low, high)
-        & row.is_single()
-        & column.is_single()
-        & on_grid(translation)
-        & same_number(last, 0)
-}
+    // Whether along an axis the range is on the grid and not empty, and the matrix a quarter-turn placement's.
+    fn grid_along(&self, i: usize) -> bool
+        requires { i < 3 }
+        ensures { result ≡ grid_along (box_of self.now.numbers) i }
+    {
+        let low = self.numbers[i];
+        let high = self.numbers[3 + i];
+        let row = self.vec_at(6 + i * 4, 1);
+        let column = self.vec_at(6 + i, 4);
+        let translation = self.numbers[18 + i];
+        let last = self.numbers[9 + i * 4];
+        on_grid(low)
+            & on_grid(high)
+            & (low <= high)
+            & is_single(row)
+            & is_single(column)
+            & on_grid(translation)
+            & (last == 0)
+    }
 
-// And so along each.
-pub(crate) fn quarter_turned(s: &[i32]) -> bool
-    requires { BoxNumbers s.now }
-    ensures { result ≡ quarter_turned (box_of s.now) }
-{
-    grid_along(s, 0) & grid_along(s, 1) & grid_along(s, 2) & same_number(number(s, 21), 1)
-}
+    // And so along each.
+    pub(crate) fn quarter_turned(&self) -> bool
+        ensures { result ≡ quarter_turned (box_of self.now.numbers) }
+    {
+        self.grid_along(0) & self.grid_along(1) & self.grid_along(2) & (self.numbers[21] == 1)
+    }
 
-// The least coordinate of the placed box along an axis.
-fn least(s: &[i32], j: usize) -> i32
-    requires { Placing s.now × (j < 3) }
-    ensures { result ≡ placed_least (box_of s.now) j }
-{
-    let column = vec_at(s, 6 + j, 4);
-    let translation = number(s, 18 + j);
-    smaller(
-        vec_at(s, 0, 1).moved(column, translation),
-        vec_at(s, 3, 1).moved(column, translation),
-    )
-}
+    // The least and the greatest coordinate of the placed box along an axis.
+    fn extent(&self, j: usize) -> (i32, i32)
+        requires { Placing self.now.numbers × (j < 3) }
+        ensures { (result.0 ≡ placed_least (box_of self.now.numbers) j) × (result.1 ≡ placed_greatest (box_of self.now.numbers) j) }
+    {
+        let column = self.vec_at(6 + j, 4);
+        let translation = self.numbers[18 + j];
+        let from = moved(self.vec_at(0, 1), column, translation);
+        let to = moved(self.vec_at(3, 1), column, translation);
+        (from.min(to), to.max(from))
+    }
 
-// And the greatest.
-fn greatest(s: &[i32], j: usize) -> i32
-    requires { Placing s.now × (j < 3) }
-    ensures { result ≡ placed_greatest (box_of s.now) j }
-{
-    let column = vec_at(s, 6 + j, 4);
-    let translation = number(s, 18 + j);
-    larger(
-        vec_at(s, 0, 1).moved(column, translation),
-        vec_at(s, 3, 1).moved(column, translation),
-    )
-}
-
-// Puts the least and the greatest corner of the placed box into a slice of six.
-pub(crate) fn put_bounds(s: &[i32], bounds: &mut [i32])
-    requires { Placing s.now × (length bounds.old ≡ 6) }
-    ensures { bounds.new ≡ placed_bounds (box_of s.now) }
-{
-    bounds[0] = least(s, 0);
-    bounds[1] = least(s, 1);
-    bounds[2] = least(s, 2);
-    bounds[3] = greatest(s, 0);
-    bounds[4] = greatest(s, 1);
-    bounds[5] = greatest(s, 2);
+    // The least and the greatest corner of the placed box.
+    pub(crate) fn bounds(&self) -> [i32; RANGE_LENGTH]
+        requires { Placing self.now.numbers }
+        ensures { result ≡ placed_bounds (box_of self.now.numbers) }
+    {
+        let (x, to_x) = self.extent(0);
+        let (y, to_y) = self.extent(1);
+        let (z, to_z) = self.extent(2);
+        [x, y, z, to_x, to_y, to_z]
+    }
 }

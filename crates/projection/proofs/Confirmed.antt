@@ -1,14 +1,14 @@
 -- A volume that is recovered, by the tests of the code. Assumes nothing.
+use Rattle.std.specs.Prelude.{None, Some}
 use mathlib.Core.Path.{◌≡◌, sym, ap, ◌∙◌}
 use mathlib.Core.Bool.{Bool, cond, ◌&&◌}
 use lib.Ieee.{Float}
 use Rattle.matrix.specs.declared.matrix.Mat4d.{Mat4d}
 use Rattle.projection.specs.declared.projection.ProjectionParams.{ProjectionParams}
-use Rattle.projection.specs.declared.projection.Recovered.TheVariants.{Params, NotAProjection}
 use Rattle.projection.specs.Projection.{bounded, close, close_to, projecting, confirmed}
 
 pub by_tests : (v w : ProjectionParams) (m : Mat4d) (s k b : Bool) → v ≡ w → s ≡ bounded v → k ≡ close_to m (projecting w) → (s && k) ≡ b
-    → cond b (Params v) NotAProjection ≡ confirmed w m
+    → cond b (Some v) None ≡ confirmed w m
 unfolding confirmed
 by_tests v w m s k b e h j t = rw (← t, h, j, e)
 

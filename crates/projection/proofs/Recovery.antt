@@ -1,4 +1,5 @@
 -- What recovery accepts is given back: its last test says so. And the matrices of a family of volumes are accepted, by computation. Assumes nothing.
+use Rattle.std.specs.Prelude.{None, Option, Some}
 use mathlib.Core.Path.{◌≡◌, refl, sym, ap, subst, ◌∙◌}
 use Prim.Native.Nat.{ℕ, suc, ◌^◌, ◌<◌}
 use native.Mathlib.Omega.{arith}
@@ -21,24 +22,20 @@ use Rattle.matrix.specs.declared.matrix.Mat4d.{Mat4d}
 use Rattle.projection.specs.declared.projection.Projection.{Projection}
 use Rattle.projection.specs.declared.projection.Projection.TheVariants.{Perspective, Orthographic}
 use Rattle.projection.specs.declared.projection.ProjectionParams.{ProjectionParams}
-use Rattle.projection.specs.declared.projection.Loaded.{Loaded}
-use Rattle.projection.specs.declared.projection.Loaded.TheVariants.{Params as Read}
-use Rattle.projection.specs.declared.projection.Recovered.{Recovered}
-use Rattle.projection.specs.declared.projection.Recovered.TheVariants.{Params, NotAProjection}
 use Rattle.projection.specs.Projection.{kind_number, numbers, params_loaded, built_numbers, tolerance, extent, close_at, close_to, bounded, close, projecting, perspective_of, orthographic_of, confirmed, recovered, recovered_numbers}
 use Rattle.projection.specs.ProjectionCalls.{projection_call, recovery_call}
 use Rattle.projection.specs.Recovery.{GivesBack, RecoveryGivesBack, centred, ThereAndBack, FamilyRecovered}
 
 -- ---- the record of a volume is taken for that volume
 
-as_kind : (kind : Projection) (p : ProjectionParams) → p.projection ≡ kind → params_loaded (kind_number kind ∷ extent p) ≡ Read p
+as_kind : (kind : Projection) (p : ProjectionParams) → p.projection ≡ kind → params_loaded (kind_number kind ∷ extent p) ≡ Some p
 unfolding params_loaded eq round units odd size span climb count_trailing_zeros
-as_kind Perspective p e = ap (λ (k : Projection). Read (record { projection = k; left = p.left; right = p.right; bottom = p.bottom; top = p.top; near = p.near; far = p.far })) (sym e)
-as_kind Orthographic p e = ap (λ (k : Projection). Read (record { projection = k; left = p.left; right = p.right; bottom = p.bottom; top = p.top; near = p.near; far = p.far })) (sym e)
+as_kind Perspective p e = ap (λ (k : Projection). Some (record { projection = k; left = p.left; right = p.right; bottom = p.bottom; top = p.top; near = p.near; far = p.far })) (sym e)
+as_kind Orthographic p e = ap (λ (k : Projection). Some (record { projection = k; left = p.left; right = p.right; bottom = p.bottom; top = p.top; near = p.near; far = p.far })) (sym e)
 
 builds : (p : ProjectionParams) (out : List Float) → length out ≡ 16 → write (entries (projecting p)) ≡ projection_call (numbers p) out
 unfolding projection_call
-builds p out h = ap (λ (l : Loaded). replied (built_numbers l) out) (sym (as_kind p.projection p refl)) ∙ left _ 16 _ out refl h
+builds p out h = ap (λ (l : Option ProjectionParams). replied (built_numbers l) out) (sym (as_kind p.projection p refl)) ∙ left _ 16 _ out refl h
 
 -- ---- what recovery accepts is given back
 
@@ -48,23 +45,23 @@ record Confirmed (p : ProjectionParams) (m : Mat4d) : Type 0 where
   near_numbers : close_to m (projecting p) ≡ true
 
 module _ (m : Mat4d) (p : ProjectionParams) where
-  never : NotAProjection ≡ Params p → Confirmed p m
+  never : None ≡ Some p → Confirmed p m
   never e = let z : ◌≡◌ {A = ℕ} 0 1 = cc in let none : ⊥ = omega arith in absurd none
 
-  by_answer : (q : ProjectionParams) (b : Bool) → (bounded q && close_to m (projecting q)) ≡ b → cond b (Params q) NotAProjection ≡ Params p → Confirmed p m
+  by_answer : (q : ProjectionParams) (b : Bool) → (bounded q && close_to m (projecting q)) ≡ b → cond b (Some q) None ≡ Some p → Confirmed p m
   by_answer q true t e =
       let s = both_hold (bounded q) (close_to m (projecting q)) t in
       let same : q ≡ p = cc in
       subst (λ (x : ProjectionParams). Confirmed x m) same (record { finite_numbers = s.0; near_numbers = s.1 })
   by_answer q false t e = never e
 
-  by_kind : (t u : Bool) → cond t (confirmed (perspective_of m) m) (cond u (confirmed (orthographic_of m) m) NotAProjection) ≡ Params p → Confirmed p m
+  by_kind : (t u : Bool) → cond t (confirmed (perspective_of m) m) (cond u (confirmed (orthographic_of m) m) None) ≡ Some p → Confirmed p m
   unfolding confirmed
   by_kind true u e = by_answer (perspective_of m) _ refl e
   by_kind false true e = by_answer (orthographic_of m) _ refl e
   by_kind false false e = never e
 
-  tested : recovered m ≡ Params p → Confirmed p m
+  tested : recovered m ≡ Some p → Confirmed p m
   unfolding recovered
   tested e = by_kind (lt (abs_of (entry m 2 3 ⊕ one)) tolerance) (lt (abs_of (entry m 2 3)) tolerance) e
 
@@ -82,14 +79,14 @@ module _ (m : List Float) (p : ProjectionParams) (c : Confirmed p (matrix_of m))
   }
 
 module _ (m out : List Float) where
-  abbrev answer : Bool → Bool → Recovered → Reply Float
+  abbrev answer : Bool → Bool → Option ProjectionParams → Reply Float
   answer inputs room r = unless inputs (refuse 1 out) (unless room (refuse 2 out) (replied (recovered_numbers r) out))
 
-  by_ways : (inputs room : Bool) (r : Recovered) → recovered (matrix_of m) ≡ r → (answer inputs room r).status ≡ 0 → GivesBack (answer inputs room r).out m
+  by_ways : (inputs room : Bool) (r : Option ProjectionParams) → recovered (matrix_of m) ≡ r → (answer inputs room r).status ≡ 0 → GivesBack (answer inputs room r).out m
   by_ways false room r q e = absurd (omega (arith, e))
   by_ways true false r q e = absurd (omega (arith, e))
-  by_ways true true NotAProjection q e = absurd (omega (arith, e))
-  by_ways true true (Params p) q e = volume_gives_back m p (tested (matrix_of m) p q)
+  by_ways true true None q e = absurd (omega (arith, e))
+  by_ways true true (Some p) q e = volume_gives_back m p (tested (matrix_of m) p q)
 
 pub recovery_gives_back : RecoveryGivesBack
 unfolding recovery_call leaving
@@ -110,9 +107,9 @@ kind_is Orthographic Perspective e = absurd (false≢true e)
 kind_is Orthographic Orthographic e = refl
 
 -- a volume of a kind is recovered
-abbrev as_such : Projection → Recovered → Bool
-as_such kind (Params p) = same_kind kind p.projection
-as_such kind NotAProjection = false
+abbrev as_such : Projection → Option ProjectionParams → Bool
+as_such kind (Some p) = same_kind kind p.projection
+as_such kind None = false
 
 -- the test of one of them
 abbrev passes : Projection → ℕ → ℕ → ℕ → Bool
@@ -127,10 +124,10 @@ computed Perspective = refl
 computed Orthographic = refl
 
 module _ (p : ProjectionParams) (out : List Float) where
-  taken : (r : Recovered) → as_such p.projection r ≡ true
+  taken : (r : Option ProjectionParams) → as_such p.projection r ≡ true
       → ((replied (recovered_numbers r) out).status ≡ 0) × (at (replied (recovered_numbers r) out).out 0 ≡ kind_number p.projection)
-  taken (Params q) e = (refl, ap kind_number (kind_is p.projection q.projection e))
-  taken NotAProjection e = absurd (false≢true e)
+  taken (Some q) e = (refl, ap kind_number (kind_is p.projection q.projection e))
+  taken None e = absurd (false≢true e)
 
   recovers : length out ≡ 7 → replied (recovered_numbers (recovered (projecting p))) out ≡ recovery_call (entries (projecting p)) out
   unfolding recovery_call

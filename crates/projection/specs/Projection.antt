@@ -3,7 +3,7 @@
 -- A number is a value of binary64, NaN and infinities among them, and each operation on them rounds; nothing is assumed of a matrix or of a volume.
 -- The eye is at 0,0,0, and z falls along its view. Four of the six numbers are edges of a window, which in perspective is 1 away from the eye; the others say
 -- how far away the volume begins and ends.
-use Rattle.std.specs.Prelude.{ℕ, Bool, cond, ◌&&◌, List, [], ◌∷◌, Float}
+use Rattle.std.specs.Prelude.{ℕ, Bool, cond, ◌&&◌, List, [], ◌∷◌, Float, None, Option, Some}
 use Rattle.std.specs.Float.Ieee.{lt, le, eq, neg}
 use Rattle.std.specs.Float.Ieee.Scale.{finite}
 use Rattle.number.specs.Limits.{matrix_length}
@@ -17,16 +17,16 @@ use Rattle.matrix.specs.declared.matrix.Mat4d.{Mat4d}
 use Rattle.projection.specs.declared.projection.Projection.{Projection}
 use Rattle.projection.specs.declared.projection.Projection.TheVariants.{Perspective, Orthographic}
 use Rattle.projection.specs.declared.projection.ProjectionParams.{ProjectionParams}
-use Rattle.projection.specs.declared.projection.Loaded.{Loaded}
-use Rattle.projection.specs.declared.projection.Loaded.TheVariants.{Params as Read, UnknownKind}
-use Rattle.projection.specs.declared.projection.Recovered.{Recovered}
-use Rattle.projection.specs.declared.projection.Recovered.TheVariants.{Params, NotAProjection}
 
 -- ---- its numbers, "kind 0 perspective or 1 orthographic, left, right, bottom, top, near, far"
 
 abbrev pub kind_number : Projection → Float
 kind_number Perspective = positive_zero
 kind_number Orthographic = one
+
+-- "a zero of either sign counts as 0"; a NaN names no kind
+abbrev pub kind_of : Float → Option Projection
+kind_of x = cond (eq x positive_zero) (Some Perspective) (cond (eq x one) (Some Orthographic) None)
 
 -- the edges of the window and the two distances
 abbrev pub extent : ProjectionParams → List Float
@@ -39,10 +39,10 @@ abbrev pub params_of : Projection → List Float → ProjectionParams
 params_of kind s = record { projection = kind; left = at s 1; right = at s 2; bottom = at s 3; top = at s 4; near = at s 5; far = at s 6 }
 
 -- "a zero of either sign counts as 0"; a NaN names no kind
-unfoldable pub params_loaded : List Float → Loaded
+unfoldable pub params_loaded : List Float → Option ProjectionParams
 params_loaded s =
-    cond (eq (at s 0) positive_zero) (Read (params_of Perspective s))
-    (cond (eq (at s 0) one) (Read (params_of Orthographic s)) UnknownKind)
+    cond (eq (at s 0) positive_zero) (Some (params_of Perspective s))
+    (cond (eq (at s 0) one) (Some (params_of Orthographic s)) None)
 
 -- ---- the matrix of a volume
 
@@ -134,27 +134,27 @@ unfoldable pub bounded : ProjectionParams → Bool
 bounded p = every_below 6 (λ i. finite (at (extent p) i))
 
 -- "Recovery needs six finite numbers and all 16 entries within the 1e-6 rebuild check."
-unfoldable pub confirmed : ProjectionParams → Mat4d → Recovered
-confirmed p m = cond (bounded p && close_to m (projecting p)) (Params p) NotAProjection
+unfoldable pub confirmed : ProjectionParams → Mat4d → Option ProjectionParams
+confirmed p m = cond (bounded p && close_to m (projecting p)) (Some p) None
 
 -- The number at row 2 and column 3 tells the kind: perspective where it is less than 1e-6 from −1, orthographic where it is less than that from 0.
-unfoldable pub recovered : Mat4d → Recovered
+unfoldable pub recovered : Mat4d → Option ProjectionParams
 recovered m =
     cond (lt (abs_of (entry m 2 3 ⊕ one)) tolerance) (confirmed (perspective_of m) m)
-    (cond (lt (abs_of (entry m 2 3)) tolerance) (confirmed (orthographic_of m) m) NotAProjection)
+    (cond (lt (abs_of (entry m 2 3)) tolerance) (confirmed (orthographic_of m) m) None)
 
 -- of the matrix in a slice; one of another length holds none
-unfoldable pub recovered_from : List Float → Recovered
-recovered_from s = unless (has matrix_length s) NotAProjection (recovered (matrix_of s))
+unfoldable pub recovered_from : List Float → Option ProjectionParams
+recovered_from s = unless (has matrix_length s) None (recovered (matrix_of s))
 
 -- ---- what each answer comes to, by the numbers of the refusals
 
 -- the matrix of a record that was read: "3 means a kind or flag outside its named values"
-abbrev pub built_numbers : Loaded → Outcome (List Float)
-built_numbers (Read p) = outcome (entries (projecting p))
-built_numbers UnknownKind = refused 3
+abbrev pub built_numbers : Option ProjectionParams → Outcome (List Float)
+built_numbers (Some p) = outcome (entries (projecting p))
+built_numbers None = refused 3
 
 -- "6 not a projection"
-abbrev pub recovered_numbers : Recovered → Outcome (List Float)
-recovered_numbers (Params p) = outcome (numbers p)
-recovered_numbers NotAProjection = refused 6
+abbrev pub recovered_numbers : Option ProjectionParams → Outcome (List Float)
+recovered_numbers (Some p) = outcome (numbers p)
+recovered_numbers None = refused 6

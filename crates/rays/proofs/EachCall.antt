@@ -1,4 +1,5 @@
 -- Many rays in one call are the single call for each: what is answered has passed the tests of every call. Assumes nothing.
+use Rattle.std.specs.Prelude.{None, Option, Some, Result, Ok, Err}
 use mathlib.Core.Path.{◌≡◌, refl, sym, ap, ◌∙◌}
 use mathlib.Core.Bool.{Bool, true, false, ◌&&◌, ◌||◌}
 use mathlib.Core.List.{List, [], ◌∷◌, map, map-map, flatten}
@@ -12,16 +13,16 @@ use Rattle.number.specs.Limits.{point_length, ray_length, hit_length}
 use Rattle.number.specs.Answer.{Reply, unless, has, leaving}
 use Rattle.number.specs.Every.{every}
 use Rattle.number.specs.Records.{record_at, records, record_count, records_of, are_records}
-use Rattle.number.specs.declared.answer.Refusal.TheVariants.{Miss as MissRefusal}
 use Rattle.number.proofs.Tests.{both_hold}
 use Rattle.number.proofs.Tabulate.{same_of_each}
 use Rattle.number.proofs.Records.{record_length, records_length}
 use Rattle.matrix.specs.Vec.{vec3_of}
+use Rattle.number.specs.declared.answer.Refusal.{Refusal}
+use Rattle.number.specs.declared.answer.Refusal.TheVariants.{Miss}
 use Rattle.verdict.specs.declared.ray.Ray.{Ray}
 use Rattle.verdict.specs.declared.ray.Triangle.{Triangle}
 use Rattle.verdict.specs.declared.ray.Meeting.{Meeting}
 use Rattle.verdict.specs.declared.ray.TriangleHit.{TriangleHit}
-use Rattle.verdict.specs.declared.ray.TriangleHit.TheVariants.{Hit, Refused}
 use Rattle.verdict.specs.Ray.{ray_of, triangle_of, meeting_of, hit_in, hit_of, triangle_hit}
 use Rattle.verdict.specs.RayCalls.{triangle_hit_call}
 use Rattle.rays.specs.Rays.{no_hit, landed, hit_numbers, statuses_of, hits_of, Left, left, rays_call}
@@ -47,7 +48,7 @@ abbrev inputs : List Float → List Float → List Float → List Float → Bool
 inputs s p0 p1 p2 = are_records ray_length s && has point_length p0 && has point_length p1 && has point_length p2
 
 module _ (s p0 p1 p2 out : List Float) (slots : List ℕ) where
-  abbrev hits : List TriangleHit
+  abbrev hits : List (Result TriangleHit Refusal)
   hits = hits_of (records_of ray_length s) (vec3_of p0) (vec3_of p1) (vec3_of p2)
 
   abbrev answer : Bool → Bool → Left
@@ -77,13 +78,13 @@ rays_are_each_call s p0 p1 p2 out slots e =
 
 -- ---- a hit or a miss
 
-abbrev HitOrMiss : TriangleHit → Type 0
+abbrev HitOrMiss : Result TriangleHit Refusal → Type 0
 HitOrMiss h = (eqb (landed h).status 0 || eqb (landed h).status 5) ≡ true
 
 of_meeting : (m : Meeting) → HitOrMiss (hit_in m)
 of_meeting m = go m.hit
   where
-    go : (b : Bool) → HitOrMiss (unless b (Refused MissRefusal) (Hit m.distance m.gamma m.alpha m.beta m.front))
+    go : (b : Bool) → HitOrMiss (unless b (Err Miss) (Ok m.numbers))
     go true = refl
     go false = refl
 
@@ -91,7 +92,7 @@ hit_or_miss : (r : Ray) (t : Triangle) → HitOrMiss (hit_of r t)
 unfolding hit_of
 hit_or_miss r t = of_meeting (meeting_of r t)
 
-every_slot : (ss : List (List Float)) (f : List Float → TriangleHit) → ((r : List Float) → HitOrMiss (f r)) → every (λ (n : ℕ). eqb n 0 || eqb n 5) (statuses_of (map f ss)) ≡ true
+every_slot : (ss : List (List Float)) (f : List Float → Result TriangleHit Refusal) → ((r : List Float) → HitOrMiss (f r)) → every (λ (n : ℕ). eqb n 0 || eqb n 5) (statuses_of (map f ss)) ≡ true
 unfolding every
 every_slot [] f h = refl
 every_slot (r ∷ rs) f h = λ i. h r i && every_slot rs f h i

@@ -1,6 +1,4 @@
 -- The laws that the proofs of this crate, and of the crates above it, cite.
-pub mod Five
 pub mod Passed
 pub mod Cleared
-pub mod Ways
 pub mod EachCall

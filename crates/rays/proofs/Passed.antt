@@ -1,4 +1,5 @@
 -- What comes of the rays, filled in ray by ray: those passed and those left make all. Assumes nothing.
+use Rattle.std.specs.Prelude.{None, Option, Some, Result, Ok, Err}
 use mathlib.Core.Path.{◌≡◌, refl, sym, ap, ◌∙◌}
 use mathlib.Core.Bool.{Bool, true, false, cond}
 use mathlib.Core.List.{List, [], ◌∷◌, ◌++◌, map, flatten, append-nil, append_assoc}
@@ -13,25 +14,24 @@ use lib.Ieee.{Float}
 use Rattle.number.specs.Limits.{ray_length, hit_length}
 use Rattle.number.specs.Answer.{answered, unless}
 use Rattle.number.specs.Records.{record_at, records}
-use Rattle.number.specs.declared.answer.Refusal.TheVariants.{Miss}
 use Rattle.number.proofs.Tabulate.{next, none}
 use Rattle.number.proofs.ListLoops.{filled, one_filled, all_filled}
-use Rattle.verdict.specs.Ray.{front_flag, hit_in}
+use Rattle.number.specs.declared.answer.Refusal.{Refusal}
+use Rattle.number.specs.declared.answer.Refusal.TheVariants.{Miss}
+use Rattle.verdict.specs.Ray.{triangle_numbers, hit_in}
 use Rattle.verdict.specs.declared.ray.Meeting.{Meeting}
 use Rattle.verdict.specs.declared.ray.TriangleHit.{TriangleHit}
-use Rattle.verdict.specs.declared.ray.TriangleHit.TheVariants.{Hit, Refused}
 use Rattle.rays.specs.Rays.{no_hit, landed, hit_numbers}
 use Rattle.rays.specs.Steps.{hit_status, meeting_numbers, cleared}
 
 -- ---- what a meeting comes to
 
-decided : (b : Bool) (d g a c : Float) (front : Bool)
-    → landed (unless b (Refused Miss) (Hit d g a c front)) ≡ answered (hit_status b) (cond (eqb (hit_status b) 0) (d ∷ g ∷ a ∷ c ∷ front_flag front ∷ []) no_hit)
-decided true d g a c front = refl
-decided false d g a c front = refl
+decided : (b : Bool) (h : TriangleHit) → landed (unless b (Err Miss) (Ok h)) ≡ answered (hit_status b) (cond (eqb (hit_status b) 0) (triangle_numbers h) no_hit)
+decided true h = refl
+decided false h = refl
 
-comes_to : (m : Meeting) (h : TriangleHit) → hit_in m ≡ h → landed h ≡ answered (hit_status m.hit) (cond (eqb (hit_status m.hit) 0) (meeting_numbers m) no_hit)
-comes_to m h e = sym (ap landed e) ∙ decided m.hit m.distance m.gamma m.alpha m.beta m.front
+comes_to : (m : Meeting) (h : Result TriangleHit Refusal) → hit_in m ≡ h → landed h ≡ answered (hit_status m.hit) (cond (eqb (hit_status m.hit) 0) (meeting_numbers m) no_hit)
+comes_to m h e = sym (ap landed e) ∙ decided m.hit m.numbers
 
 -- ---- cleared, with one ray more
 
@@ -48,7 +48,7 @@ one_more (j ∷ ks) k a v p q =
 
 -- ---- the loop
 
-module _ (f : List Float → TriangleHit) (n : ℕ) (s : List Float) where
+module _ (f : List Float → Result TriangleHit Refusal) (n : ℕ) (s : List Float) where
   abbrev rays : List (List Float)
   rays = records ray_length n s
 

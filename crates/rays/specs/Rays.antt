@@ -1,5 +1,5 @@
 -- Many rays, each asked of one triangle, as `intersect_triangle` does: hail on a net. Definitions only.
-use Rattle.std.specs.Prelude.{ℕ, ◌*◌, ◌&&◌, replicate, Float}
+use Rattle.std.specs.Prelude.{ℕ, ◌*◌, ◌&&◌, replicate, Float, Result}
 use mathlib.Core.List.{List, map, flatten}
 use Rattle.number.specs.Limits.{point_length, ray_length, hit_length}
 use Rattle.number.specs.Answer.{Reply, replied, unless, has}
@@ -7,6 +7,7 @@ use Rattle.number.specs.Records.{record_count, records_of, are_records}
 use Rattle.matrix.specs.Constants.{positive_zero}
 use Rattle.matrix.specs.Vec.{vec3_of}
 use Rattle.matrix.specs.declared.vec.Vec3d.{Vec3d}
+use Rattle.number.specs.declared.answer.Refusal.{Refusal}
 use Rattle.verdict.specs.Ray.{ray_of, triangle_hit, triangle_hit_numbers}
 use Rattle.verdict.specs.declared.ray.TriangleHit.{TriangleHit}
 
@@ -17,19 +18,19 @@ abbrev pub no_hit : List Float
 no_hit = replicate hit_length positive_zero
 
 -- 0 and the numbers of the hit, or 5 and those of a miss
-abbrev pub landed : TriangleHit → Reply Float
+abbrev pub landed : Result TriangleHit Refusal → Reply Float
 landed h = replied (triangle_hit_numbers h) no_hit
 
 -- the numbers of all rays, one behind another
-abbrev pub hit_numbers : List TriangleHit → List Float
+abbrev pub hit_numbers : List (Result TriangleHit Refusal) → List Float
 hit_numbers hs = flatten (map (λ h. (landed h).out) hs)
 
 -- and what stands in their slots
-abbrev pub statuses_of : List TriangleHit → List ℕ
+abbrev pub statuses_of : List (Result TriangleHit Refusal) → List ℕ
 statuses_of hs = map (λ h. (landed h).status) hs
 
 -- each ray's hit on the triangle a, b, c, or its miss
-abbrev pub hits_of : List (List Float) → Vec3d → Vec3d → Vec3d → List TriangleHit
+abbrev pub hits_of : List (List Float) → Vec3d → Vec3d → Vec3d → List (Result TriangleHit Refusal)
 hits_of ss a b c = map (λ r. triangle_hit (ray_of r) a b c) ss
 
 -- ---- what the operation answers and leaves: 1 for what it reads, then 2 for what it writes, and a refusal preserves both slices

@@ -2,7 +2,7 @@
 use mathlib.Core.Path.{◌≡◌, refl, sym, ap, subst, ◌∙◌}
 use mathlib.Core.Bool.{Bool}
 use mathlib.Core.List.{List, [], ◌∷◌, ◌++◌}
-use Prim.Native.Nat.{ℕ, zero, suc, ◌+◌, ◌-◌, ◌*◌, ◌≤◌, ◌<◌}
+use Prim.Native.Nat.{ℕ, zero, suc, ◌+◌, ◌-◌, ◌*◌, ◌≤◌}
 use native.Mathlib.Numerals.{add-one}
 use native.Mathlib.Omega.{arith}
 use lib.ListN.{length, length-append, take, drop}
@@ -26,11 +26,11 @@ use Rattle.verdict.specs.PlanesMeaning.{is_set}
 use Rattle.verdict.proofs.PlanesBehind.{same_places, box_by, planes_answered}
 use Rattle.verdict.proofs.PlanesMeaning.{bit_at, past_planes}
 use Rattle.placed.specs.BBoxCall.{ExactBoxCall}
-use Rattle.farm.specs.Text.{lines_from}
-use Rattle.farm.proofs.Texts.{put_then, put_meant, put_length, lines_more}
+use Rattle.farm.specs.Text.{lines_from, Added}
+use Rattle.farm.proofs.Texts.{none_added, added_then, added_meant, lines_more}
 use Rattle.reason.specs.Lines.{Reason, place_words, reason_line}
 use Rattle.reason.specs.Explained.{reason_of, Reasons, none, more}
-use Rattle.reason.specs.Steps.{places_room, reason_room, LinePut, LinesPut}
+use Rattle.reason.specs.Steps.{places_room, reason_room, LineAdded, LinesAdded}
 use Rattle.reason.proofs.Texts.{short_words, short_line}
 
 -- ---- the bits of the planes that a box is behind
@@ -83,17 +83,11 @@ module _ (v : List Float) (n : ℕ) (h : outcome n ≡ planes_held v) where
   short_reason : (k : ℕ) (x : List Float) (answer : Outcome Bool) → length (reason_line k (reason_of ps x answer)) ≤ reason_room
   short_reason k x answer = short_line k (reason_of ps x answer) (short_places x)
 
-  pub short_put : (x : List Float) (k : ℕ) (t : List ℕ) (at place : ℕ) (l : List ℕ) → at + reason_room ≤ length t → LinePut v ps x k t at place l → length l ≡ length t
-  short_put x k t at place l r s = put_length t at _ place l s.put (omega (arith, r, short_reason k x s.answer))
-
-  short_lines : (k : ℕ) {xs : List (List Float)} {rs : List Reason} → Reasons v ps xs rs → length (lines_from reason_line k rs) ≤ reason_room * length xs
+  pub short_lines : (k : ℕ) {xs : List (List Float)} {rs : List Reason} → Reasons v ps xs rs → length (lines_from reason_line k rs) ≤ reason_room * length xs
   unfolding lines_from
   short_lines k none = omega arith
   short_lines k (more {x} {xs} {rs} answer c q) =
       omega (arith, length-append (reason_line k (reason_of ps x answer)) (lines_from reason_line (suc k) rs), short_reason k x answer, short_lines (suc k) q)
-
-  pub next_fits : (s : List Float) (m i : ℕ) (t : List ℕ) (at : ℕ) (l : List ℕ) → i < m → reason_room * m ≤ length t → LinesPut v ps (records box_length i s) t at l → at + reason_room ≤ length t
-  next_fits s m i t at l g r p = omega (arith, g, r, p.put.0, short_lines 1 p.allowed, as_many (record_at box_length s) i)
 
 -- ---- one line more
 
@@ -106,14 +100,14 @@ reasons_more : {v : List Float} {ps : List Plane} {xs : List (List Float)} {rs :
 reasons_more none x answer c = more answer c none
 reasons_more (more a d q) x answer c = more a d (reasons_more q x answer c)
 
-module _ {v : List Float} {ps : List Plane} (s : List Float) (t : List ℕ) where
-  pub no_line : LinesPut v ps (records box_length 0 s) t 0 t
+module _ {v : List Float} {ps : List Plane} (s : List Float) where
+  pub no_line : (t : List ℕ) → [] ≡ t → LinesAdded v ps (records box_length 0 s) t
   unfolding tabulate lines_from
-  no_line = record { reasons = []; allowed = none; put = (refl, refl) }
+  no_line t e = record { reasons = []; allowed = none; added = subst (λ (l : List ℕ). Added [] [] l) e (none_added []) }
 
-  pub line_more : (i at place : ℕ) (l m : List ℕ) → LinesPut v ps (records box_length i s) t at l → LinePut v ps (take box_length (drop (i * box_length) s)) (i + 1) l at place m
-      → LinesPut v ps (records box_length (i + 1) s) t place m
-  line_more i at place l m p q =
+  pub line_more : (i : ℕ) (t m : List ℕ) → LinesAdded v ps (records box_length i s) t → LineAdded v ps (take box_length (drop (i * box_length) s)) (i + 1) t m
+      → LinesAdded v ps (records box_length (i + 1) s) m
+  line_more i t m p q =
       let x = take box_length (drop (i * box_length) s) in
       let rs = p.reasons in
       let r = reason_of ps x q.answer in
@@ -121,7 +115,6 @@ module _ {v : List Float} {ps : List Plane} (s : List Float) (t : List ℕ) wher
       record {
         reasons = rs ++ (r ∷ []);
         allowed = subst (λ (xs : List (List Float)). Reasons v ps xs (rs ++ (r ∷ []))) (sym (ap (λ (k : ℕ). records box_length k s) (add-one i) ∙ last (record_at box_length s) i)) (reasons_more p.allowed x q.answer q.called);
-        put = put_meant t 0 (lines_from reason_line 1 rs ++ reason_line (i + 1) r) place m
-            (put_then t 0 (lines_from reason_line 1 rs) at l p.put (reason_line (i + 1) r) place m (omega arith) q.put) _
-            (sym (lines_more reason_line 1 rs r ∙ ap (λ (k : ℕ). lines_from reason_line 1 rs ++ reason_line k r) e));
+        added = added_meant (lines_from reason_line 1 rs ++ reason_line (i + 1) r) _
+            (sym (lines_more reason_line 1 rs r ∙ ap (λ (k : ℕ). lines_from reason_line 1 rs ++ reason_line k r) e)) (added_then p.added q.added);
       }

@@ -9,13 +9,9 @@ use lib.ListN.{length, length-append}
 use Rattle.number.specs.Answer.{Outcome, refused, outcome}
 use Rattle.number.specs.Places.{places_below}
 use Rattle.farm.specs.Text.{decimal}
-use Rattle.farm.specs.Steps.{Put}
-use Rattle.farm.proofs.Texts.{has_room_lem, none_put, short_decimal}
+use Rattle.farm.proofs.Texts.{short_decimal}
 use Rattle.reason.specs.Lines.{Reason, verdict_word, place_words, behind_words, exact_word, reason_line}
 use Rattle.reason.specs.Steps.{places_room, reason_room}
-
-pub no_bytes : (t : List ℕ) (at : ℕ) → at ≤ length t → Put t at [] at t
-no_bytes t at h = has_room_lem t at [] at t (omega (arith, h)) (none_put t at)
 
 -- ---- places
 

@@ -1,39 +1,25 @@
 // Lone numbers and verdicts as a record has them: numbers of a slice.
 ghost use Rattle.std.specs.Prelude.{◌≡◌};
-ghost use Rattle.number.specs.Answer.{answered, scalar_of, verdict_of};
+ghost use Rattle.number.specs.Answer.{reply, outcome_of};
 ghost use Rattle.replay.specs.Answers.{put_number, as_number};
 
-use number::answer::{Scalar, Verdict};
+use number::answer::Refusal;
 use number::format::from_bits;
 
 // A lone number, to the front of a slice.
-pub fn put_number(number: Scalar, out: &mut [f64]) -> u32
-    ensures { answered result out.new ≡ put_number (scalar_of number) out.old }
+pub fn put_number(number: Result<f64, Refusal>, out: &mut [f64]) -> Result<(), Refusal>
+    ensures { reply result out.new ≡ put_number (outcome_of number) out.old }
 {
-    match number {
-        Scalar::Value(x) => {
-            if 0 < out.len() {
-                out[0] = x;
-            }
-            0
-        }
-        Scalar::Refused(r) => r.number(),
+    let x = number?;
+    if !out.is_empty() {
+        out[0] = x;
     }
+    Ok(())
 }
 
 // A verdict as the word 1 or 0.
-fn as_number(verdict: Verdict) -> Scalar
-    ensures { scalar_of result ≡ as_number (verdict_of verdict) }
+pub fn put_verdict(verdict: Result<bool, Refusal>, out: &mut [f64]) -> Result<(), Refusal>
+    ensures { reply result out.new ≡ put_number (as_number (outcome_of verdict)) out.old }
 {
-    match verdict {
-        Verdict::Yes => Scalar::Value(from_bits(1)),
-        Verdict::No => Scalar::Value(from_bits(0)),
-        Verdict::Refused(r) => Scalar::Refused(r),
-    }
-}
-
-pub fn put_verdict(verdict: Verdict, out: &mut [f64]) -> u32
-    ensures { answered result out.new ≡ put_number (as_number (verdict_of verdict)) out.old }
-{
-    put_number(as_number(verdict), out)
+    put_number(verdict.map(|yes| from_bits(u64::from(yes))), out)
 }

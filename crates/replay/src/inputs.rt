@@ -1,22 +1,37 @@
 // The inputs of a call, cut from one slice.
-ghost use Rattle.std.specs.Prelude.{◌≡◌, take, drop};
+ghost use Rattle.std.specs.Prelude.{◌≡◌, slice_index, take, drop};
 
-// The first numbers of a slice, as many as it has.
-pub fn first(s: &[f64], count: usize) -> &[f64]
-    ensures { result.now ≡ take count s.now }
-{
-    if count <= s.len() {
-        return &s[..count];
-    }
-    s
+use crate::lengths::Lengths;
+
+// Four slices: those that a call does not take have no numbers.
+#[derive(Clone, Copy)]
+pub struct Inputs<'a> {
+    pub a: &'a [f64],
+    pub b: &'a [f64],
+    pub c: &'a [f64],
+    pub d: &'a [f64],
 }
 
-// What follows the first numbers of a slice.
-pub fn rest(s: &[f64], count: usize) -> &[f64]
-    ensures { result.now ≡ drop count s.now }
+// The first numbers of a slice, as many as it has, and what follows them.
+fn cut(s: &[f64], count: u8) -> (&[f64], &[f64])
+    ensures first { result.0.now ≡ take count s.now }
+    ensures rest { result.1.now ≡ drop count s.now }
 {
-    if count <= s.len() {
-        return &s[count..];
+    s.split_at(usize::from(count).min(s.len()))
+}
+
+impl<'a> Inputs<'a> {
+    // One behind the other, of the lengths that an operation asks for.
+    pub fn of(given: &'a [f64], lengths: Lengths) -> Inputs<'a>
+        ensures first { result.a.now ≡ take (slice_index lengths.places 0) given.now }
+        ensures second { result.b.now ≡ take (slice_index lengths.places 1) (drop (slice_index lengths.places 0) given.now) }
+        ensures third { result.c.now ≡ take (slice_index lengths.places 2) (drop (slice_index lengths.places 1) (drop (slice_index lengths.places 0) given.now)) }
+        ensures fourth { result.d.now ≡ take (slice_index lengths.places 3) (drop (slice_index lengths.places 2) (drop (slice_index lengths.places 1) (drop (slice_index lengths.places 0) given.now))) }
+    {
+        let (a, past_a) = cut(given, lengths.places[0]);
+        let (b, past_b) = cut(past_a, lengths.places[1]);
+        let (c, past_c) = cut(past_b, lengths.places[2]);
+        let (d, _) = cut(past_c, lengths.places[3]);
+        Inputs { a, b, c, d }
     }
-    &s[..0]
 }

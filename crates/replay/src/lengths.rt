@@ -1,62 +1,48 @@
-// The lengths that an operation asks for, of its four inputs and then of its result: 0 where there is none, and
-// 1 for a lone number or a verdict, which is lent no slice.
-ghost use Rattle.std.specs.Prelude.{◌≡◌, ◌-◌};
-ghost use Rattle.replay.specs.Lengths.{input_numbers, is_lent, shorter, longer, refusal_at};
+// The lengths that an operation asks for.
+ghost use Rattle.std.specs.Prelude.{◌≡◌, ◌<◌, IsTrue, slice_index};
+ghost use Rattle.number.specs.Answer.{number_of};
+ghost use Rattle.replay.specs.Lengths.{input_numbers, is_lent, refusal_at};
 
-use crate::wide;
+use number::answer::Refusal;
 
-// How many numbers the inputs have together.
-pub fn total(lengths: [u8; 5]) -> usize
-    ensures { result ≡ input_numbers lengths }
-{
-    wide(lengths[0]) + wide(lengths[1]) + wide(lengths[2]) + wide(lengths[3])
+// Those of its four inputs and then of its result: 0 where there is none, and 1 for a lone number or a verdict, which is lent no slice.
+#[derive(Clone, Copy)]
+pub struct Lengths {
+    pub places: [u8; 5],
 }
 
-// Whether there is a slice at a place.
-pub(crate) fn is_lent(lengths: [u8; 5], at: usize) -> bool
-    ensures { result ≡ is_lent lengths at }
-{
-    if at < 5 {
-        return 1 < lengths[at];
+impl Lengths {
+    // How many numbers the inputs have together.
+    pub fn total(self) -> usize
+        ensures { result ≡ input_numbers self.places }
+    {
+        let [a, b, c, d, _] = self.places;
+        usize::from(a) + usize::from(b) + usize::from(c) + usize::from(d)
     }
-    false
-}
 
-fn less(length: u8) -> u8
-    ensures { result ≡ length - 1 }
-{
-    if length == 0 {
-        return 0;
+    // How many the result has.
+    pub fn of_result(self) -> usize
+        ensures { result ≡ slice_index self.places 4 }
+    {
+        usize::from(self.places[4])
     }
-    length - 1
-}
 
-// With a number less at a place.
-pub(crate) fn shorter(mut lengths: [u8; 5], at: usize) -> [u8; 5]
-    ensures { result ≡ shorter lengths at }
-{
-    if at < 5 {
-        lengths[at] = less(lengths[at]);
+    // Whether there is a slice at a place.
+    pub(crate) fn is_lent(self, at: usize) -> bool
+        ensures is { result ≡ is_lent self.places at }
+        ensures within { IsTrue result → at < 5 }
+    {
+        at < 5 && 1 < self.places[at]
     }
-    lengths
-}
-
-// With a number more at a place.
-pub(crate) fn longer(mut lengths: [u8; 5], at: usize) -> [u8; 5]
-    ensures { result ≡ longer lengths at }
-{
-    if at < 5 {
-        lengths[at] = std::num::wrapping_add_u8(lengths[at], 1);
-    }
-    lengths
 }
 
 // How a wrong length at a place is refused.
-pub(crate) fn refusal(at: usize) -> u64
-    ensures { result ≡ refusal_at at }
+pub(crate) fn refusal(at: usize) -> Refusal
+    ensures { number_of result ≡ refusal_at at }
 {
     if at < 4 {
-        return 1;
+        Refusal::InputLength
+    } else {
+        Refusal::OutputLength
     }
-    2
 }

@@ -2,17 +2,9 @@
 // the comparison. What reads and prints is in the program, since no equation can say it.
 #![tactic(auto)]
 
-ghost use Rattle.std.specs.Prelude.{◌≡◌, ◌<◌};
-
 pub mod answer;
 pub mod inputs;
 pub mod lengths;
 pub mod same;
 pub mod trials;
 pub mod words;
-
-fn wide(b: u8) -> usize
-    ensures { (result ≡ b) × (result < 256) }
-{
-    b as usize
-}

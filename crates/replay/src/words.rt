@@ -9,26 +9,17 @@ pub const ROOM: usize = 192;
 
 pub const BYTES: usize = 8 * ROOM;
 
-fn least(a: usize, b: usize) -> usize
-    ensures { result ≡ min a b }
-{
-    if a < b {
-        return a;
-    }
-    b
-}
-
 // A count of numbers, at most as many as are held.
 pub fn in_room(count: usize) -> usize
     ensures { result ≡ min count 192 }
 {
-    least(count, ROOM)
+    count.min(ROOM)
 }
 
 // So many words as numbers, to the front of a slice, as many as there are and it has room for.
 pub fn put_numbers(bytes: &[u8; BYTES], count: usize, numbers: &mut [f64])
     ensures { numbers.new ≡ put_words count bytes.now numbers.old }
 {
-    let n = least(in_room(count), numbers.len());
+    let n = in_room(count).min(numbers.len());
     load(bytes, 0, &mut numbers[..n]);
 }

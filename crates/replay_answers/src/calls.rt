@@ -1,78 +1,75 @@
-// The families of operations, each by its number.
-use crate::verdict_operations::{COMBINE, COMBINE_GROUP};
-use crate::{
-    matrix_operations, number_operations, slot_operations, verdict_operations, whole_operations,
-};
-use replay::inputs::{first, rest};
+// The operations, by the families that records number.
+use crate::camera_operations::CameraOperation;
+use crate::matrix_operations::{MatrixOperation, RangeOperation};
+use crate::number_operations::NumberOperation;
+use crate::slot_operations::{PlaceOperation, SlotsOperation};
+use crate::verdict_operations::{BBoxOperation, PlaneOperation, RayOperation, VerdictOperation};
+use crate::whole_operations::WholeOperation;
+use number::answer::Refusal;
+use replay::inputs::Inputs;
 
-const NUMBER: u8 = 1;
-
-const MATRIX: u8 = 2;
-
-const RANGE: u8 = 3;
-
-const BBOX: u8 = 4;
-
-const PLANE: u8 = 5;
-
-const RAY: u8 = 6;
-
-const CAMERA: u8 = 7;
-
-const VERDICT: u8 = 8;
-
-const WHOLE: u8 = 9;
-
-const PLACE: u8 = 10;
-
-// Whether the zeros of its result must have the signs that were recorded: all but those of combined boxes, whose judge chooses other zeros.
-pub(crate) fn signed(family: u8, operation: u8) -> bool {
-    (family != BBOX) | ((operation != COMBINE) & (operation != COMBINE_GROUP))
+// Why a call is none that a record can have: numbers that do not fit where they are put, or a witness that was not left as it must be.
+#[derive(Clone, Copy)]
+pub(crate) enum Unplayed {
+    TooLong,
+    Witness,
 }
 
-// Calls an operation with inputs, and answers its status.
-fn call_on(
-    family: u8,
-    operation: u8,
-    a: &[f64],
-    b: &[f64],
-    c: &[f64],
-    d: &[f64],
-    out: &mut [f64],
-) -> u32 {
-    match family {
-        NUMBER => number_operations::call(operation, a, b, out),
-        MATRIX => matrix_operations::matrix_call(operation, a, b, out),
-        RANGE => matrix_operations::range_call(operation, a, b, out),
-        BBOX => verdict_operations::bbox_call(operation, a, b, out),
-        PLANE => verdict_operations::plane_call(operation, a, b, c, out),
-        RAY => verdict_operations::ray_call(operation, a, b, c, d, out),
-        CAMERA => verdict_operations::camera_call(operation, a, b, c, out),
-        VERDICT => verdict_operations::verdict_call(operation, a, b, c, d, out),
-        WHOLE => whole_operations::call(operation, a, b, c, out),
-        PLACE => slot_operations::place_call(operation, a, b, c, out),
-        _ => slot_operations::slots_call(operation, a, b, c, d, out),
+#[derive(Clone, Copy)]
+pub(crate) enum Operation {
+    Number(NumberOperation),
+    Matrix(MatrixOperation),
+    Range(RangeOperation),
+    BBox(BBoxOperation),
+    Plane(PlaneOperation),
+    Ray(RayOperation),
+    Camera(CameraOperation),
+    Verdict(VerdictOperation),
+    Whole(WholeOperation),
+    Place(PlaceOperation),
+    Slots(SlotsOperation),
+}
+
+// The number of a family, and that of an operation there. Each match takes a number that it does not name for the one it ends with.
+impl From<[u8; 2]> for Operation {
+    fn from(numbers: [u8; 2]) -> Operation {
+        let [family, operation] = numbers;
+        match family {
+            1 => Operation::Number(operation.into()),
+            2 => Operation::Matrix(operation.into()),
+            3 => Operation::Range(operation.into()),
+            4 => Operation::BBox(operation.into()),
+            5 => Operation::Plane(operation.into()),
+            6 => Operation::Ray(operation.into()),
+            7 => Operation::Camera(operation.into()),
+            8 => Operation::Verdict(operation.into()),
+            9 => Operation::Whole(operation.into()),
+            10 => Operation::Place(operation.into()),
+            _ => Operation::Slots(operation.into()),
+        }
     }
 }
 
-// The same with the inputs of these lengths.
-pub(crate) fn call(
-    family: u8,
-    operation: u8,
-    given: &[f64],
-    lengths: [u8; 5],
-    out: &mut [f64],
-) -> u32 {
-    let past_a = rest(given, lengths[0] as usize);
-    let past_b = rest(past_a, lengths[1] as usize);
-    let past_c = rest(past_b, lengths[2] as usize);
-    call_on(
-        family,
-        operation,
-        first(given, lengths[0] as usize),
-        first(past_a, lengths[1] as usize),
-        first(past_b, lengths[2] as usize),
-        first(past_c, lengths[3] as usize),
-        out,
-    )
+impl Operation {
+    // Calls it. Each family matches over its operations, since these take inputs of different numbers and kinds: in a
+    // table of functions each would need a closure of its own, that says no more than its arm.
+    pub(crate) fn call(
+        self,
+        inputs: Inputs<'_>,
+        out: &mut [f64],
+    ) -> Result<Result<(), Refusal>, Unplayed> {
+        Ok(match self {
+            Operation::Number(operation) => operation.call(inputs, out),
+            Operation::Matrix(operation) => operation.call(inputs, out),
+            Operation::Range(operation) => operation.call(inputs, out),
+            Operation::BBox(operation) => operation.call(inputs, out),
+            Operation::Plane(operation) => operation.call(inputs, out),
+            Operation::Ray(operation) => operation.call(inputs, out),
+            Operation::Camera(operation) => operation.call(inputs, out),
+            Operation::Verdict(operation) => operation.call(inputs, out),
+            Operation::Whole(operation) => operation.call(inputs, out)?,
+            Operation::Place(operation) => operation.call(inputs, out),
+            Operation::Slots(operation) => operation.call(inputs, out),
+        })
+    }
 }

@@ -3,6 +3,7 @@
 #![tactic(auto)]
 
 mod calls;
+mod camera_operations;
 mod matrix_operations;
 mod number_operations;
 mod record;

@@ -1,29 +1,91 @@
-// The operations of the crate `matrix`, each by its place. Each answers its status.
+// The operations of the crate `matrix`.
 use matrix::{matrix_calls, range_calls};
+use number::answer::Refusal;
 use replay::answer::{put_number, put_verdict};
+use replay::inputs::Inputs;
 
-pub(crate) fn matrix_call(operation: u8, a: &[f64], b: &[f64], out: &mut [f64]) -> u32 {
-    match operation {
-        1 => matrix_calls::product(a, b, out).status(),
-        2 => matrix_calls::transpose(a, out).status(),
-        3 => matrix_calls::inverse(a, out).status(),
-        4 => matrix_calls::transform(a, b, out).status(),
-        5 => matrix_calls::transform_affine(a, b, out).status(),
-        6 => matrix_calls::transform_dir(a, b, out).status(),
-        7 => matrix_calls::transform_homogeneous(a, b, out).status(),
-        8 => put_number(matrix_calls::determinant3(a), out),
-        _ => put_verdict(matrix_calls::is_right_handed(a), out),
+#[derive(Clone, Copy)]
+pub(crate) enum MatrixOperation {
+    Product,
+    Transpose,
+    Inverse,
+    Transform,
+    TransformAffine,
+    TransformDirection,
+    TransformHomogeneous,
+    Determinant,
+    IsRightHanded,
+}
+
+impl From<u8> for MatrixOperation {
+    fn from(number: u8) -> MatrixOperation {
+        match number {
+            1 => MatrixOperation::Product,
+            2 => MatrixOperation::Transpose,
+            3 => MatrixOperation::Inverse,
+            4 => MatrixOperation::Transform,
+            5 => MatrixOperation::TransformAffine,
+            6 => MatrixOperation::TransformDirection,
+            7 => MatrixOperation::TransformHomogeneous,
+            8 => MatrixOperation::Determinant,
+            _ => MatrixOperation::IsRightHanded,
+        }
     }
 }
 
-pub(crate) fn range_call(operation: u8, a: &[f64], b: &[f64], out: &mut [f64]) -> u32 {
-    match operation {
-        1 => put_verdict(range_calls::is_empty(a), out),
-        2 => range_calls::union(a, b, out).status(),
-        3 => range_calls::intersection(a, b, out).status(),
-        4 => range_calls::midpoint(a, out).status(),
-        5 => put_number(range_calls::distance_squared(a, b), out),
-        6 => range_calls::transformed(a, b, out).status(),
-        _ => range_calls::corners(a, out).status(),
+impl MatrixOperation {
+    pub(crate) fn call(self, inputs: Inputs<'_>, out: &mut [f64]) -> Result<(), Refusal> {
+        let Inputs { a, b, .. } = inputs;
+        match self {
+            MatrixOperation::Product => matrix_calls::product(a, b, out),
+            MatrixOperation::Transpose => matrix_calls::transpose(a, out),
+            MatrixOperation::Inverse => matrix_calls::inverse(a, out),
+            MatrixOperation::Transform => matrix_calls::transform(a, b, out),
+            MatrixOperation::TransformAffine => matrix_calls::transform_affine(a, b, out),
+            MatrixOperation::TransformDirection => matrix_calls::transform_dir(a, b, out),
+            MatrixOperation::TransformHomogeneous => matrix_calls::transform_homogeneous(a, b, out),
+            MatrixOperation::Determinant => put_number(matrix_calls::determinant3(a), out),
+            MatrixOperation::IsRightHanded => put_verdict(matrix_calls::is_right_handed(a), out),
+        }
+    }
+}
+
+#[derive(Clone, Copy)]
+pub(crate) enum RangeOperation {
+    IsEmpty,
+    Union,
+    Intersection,
+    Midpoint,
+    DistanceSquared,
+    Transformed,
+    Corners,
+}
+
+impl From<u8> for RangeOperation {
+    fn from(number: u8) -> RangeOperation {
+        match number {
+            1 => RangeOperation::IsEmpty,
+            2 => RangeOperation::Union,
+            3 => RangeOperation::Intersection,
+            4 => RangeOperation::Midpoint,
+            5 => RangeOperation::DistanceSquared,
+            6 => RangeOperation::Transformed,
+            _ => RangeOperation::Corners,
+        }
+    }
+}
+
+impl RangeOperation {
+    pub(crate) fn call(self, inputs: Inputs<'_>, out: &mut [f64]) -> Result<(), Refusal> {
+        let Inputs { a, b, .. } = inputs;
+        match self {
+            RangeOperation::IsEmpty => put_verdict(range_calls::is_empty(a), out),
+            RangeOperation::Union => range_calls::union(a, b, out),
+            RangeOperation::Intersection => range_calls::intersection(a, b, out),
+            RangeOperation::Midpoint => range_calls::midpoint(a, out),
+            RangeOperation::DistanceSquared => put_number(range_calls::distance_squared(a, b), out),
+            RangeOperation::Transformed => range_calls::transformed(a, b, out),
+            RangeOperation::Corners => range_calls::corners(a, out),
+        }
     }
 }

@@ -1,39 +1,61 @@
-// The operations of the crate `number`, each by its place. A binary32 number is its pattern as a word.
-use number::answer::{Refusal, Scalar};
+// The operations of the crate `number`. A binary32 number is its pattern as a word.
+use number::answer::Refusal;
 use number::format::{from_bits, from_bits_32, narrow, to_bits, to_bits_32, widen};
 use number::grid::grid;
 use number::order::{abs, max, min};
 use number::root::sqrt;
 use number::slice::at;
 use replay::answer::put_number;
+use replay::inputs::Inputs;
 
 fn narrowed(x: f64) -> f64 {
-    from_bits(to_bits_32(narrow(x)) as u64)
+    from_bits(u64::from(to_bits_32(narrow(x))))
 }
 
-fn widened(x: f64) -> Scalar {
-    let pattern = to_bits(x);
-    if 0xffff_ffff < pattern {
-        return Scalar::Refused(Refusal::Kind);
-    }
-    Scalar::Value(widen(from_bits_32(pattern as u32)))
-}
-
-fn number(operation: u8, x: f64, y: f64) -> Scalar {
-    match operation {
-        1 => Scalar::Value(sqrt(x)),
-        2 => Scalar::Value(abs(x)),
-        3 => Scalar::Value(min(x, y)),
-        4 => Scalar::Value(max(x, y)),
-        5 => Scalar::Value(narrowed(x)),
-        _ => widened(x),
+fn widened(x: f64) -> Result<f64, Refusal> {
+    match u32::try_from(to_bits(x)) {
+        Ok(pattern) => Ok(widen(from_bits_32(pattern))),
+        Err(_) => Err(Refusal::Kind),
     }
 }
 
-// Calls an operation, and answers its status.
-pub(crate) fn call(operation: u8, a: &[f64], b: &[f64], out: &mut [f64]) -> u32 {
-    if operation == 7 {
-        return grid(a, out).status();
+#[derive(Clone, Copy)]
+pub(crate) enum NumberOperation {
+    SquareRoot,
+    Absolute,
+    Least,
+    Greatest,
+    Narrow,
+    Widen,
+    Grid,
+}
+
+impl From<u8> for NumberOperation {
+    fn from(number: u8) -> NumberOperation {
+        match number {
+            1 => NumberOperation::SquareRoot,
+            2 => NumberOperation::Absolute,
+            3 => NumberOperation::Least,
+            4 => NumberOperation::Greatest,
+            5 => NumberOperation::Narrow,
+            7 => NumberOperation::Grid,
+            _ => NumberOperation::Widen,
+        }
     }
-    put_number(number(operation, at(a, 0), at(b, 0)), out)
+}
+
+impl NumberOperation {
+    pub(crate) fn call(self, inputs: Inputs<'_>, out: &mut [f64]) -> Result<(), Refusal> {
+        let x = at(inputs.a, 0);
+        let y = at(inputs.b, 0);
+        match self {
+            NumberOperation::SquareRoot => put_number(Ok(sqrt(x)), out),
+            NumberOperation::Absolute => put_number(Ok(abs(x)), out),
+            NumberOperation::Least => put_number(Ok(min(x, y)), out),
+            NumberOperation::Greatest => put_number(Ok(max(x, y)), out),
+            NumberOperation::Narrow => put_number(Ok(narrowed(x)), out),
+            NumberOperation::Widen => put_number(widened(x), out),
+            NumberOperation::Grid => grid(inputs.a, out),
+        }
+    }
 }

@@ -1,87 +1,179 @@
-// Reads records, and compares them with what the calls of `calls` answer. A record's head is eight bytes: the family of operations, the
+// Reads records, and compares them with what the operations answer. A record's head is eight bytes: the family of operations, the
 // operation's place there, the lengths of the four inputs and of the result, and the status. Behind it are the numbers of the inputs, a
 // word each, and those of the result, unless the call is refused. A lone number is one word, a yes the word 1 and a no the word 0. Behind
 // the records of an operation is its name, with a head of its own: NAME, and how long it is.
-use crate::calls::{call, signed};
-use replay::lengths::total;
-use replay::trials::{accepts, blank, tried};
+use crate::calls::Operation;
+use number::answer::{Refusal, status};
+use replay::inputs::Inputs;
+use replay::lengths::Lengths;
+use replay::trials::{Answer, Trial, blank};
 use replay::words::{BYTES, ROOM, in_room, put_numbers};
 
-// In the place of a family.
+// In the place of a family: a record is bytes, and these numbers are its form.
 const END: u8 = 0;
 
 const NAME: u8 = 255;
 
-// The next head; past the end END.
-fn read_head() -> [u8; 8] {
-    let mut head = [0u8; 8];
-    io::read_full(0, &mut head);
-    head
+// The operations whose judge chooses other zeros: a box combined of two, and of a group.
+const COMBINE: [u8; 2] = [4, 1];
+
+const COMBINE_GROUP: [u8; 2] = [4, 6];
+
+// A status that no operation has, of a call that no record can have.
+const UNPLAYED: u32 = 99;
+
+#[derive(Clone, Copy)]
+struct Head {
+    operation: [u8; 2],
+    lengths: Lengths,
+    status: u8,
+}
+
+impl Head {
+    // Whether the zeros of its result must have the signs that were recorded.
+    fn is_signed(self) -> bool {
+        !matches!(self.operation, COMBINE | COMBINE_GROUP)
+    }
+}
+
+// What comes next.
+#[derive(Clone, Copy)]
+enum Entry {
+    Record(Head),
+    Name { length: u8 },
+    End,
+}
+
+impl Entry {
+    // Past the end there are zeros.
+    fn read() -> Entry {
+        let mut head = [0u8; 8];
+        io::read_full(0, &mut head);
+        let [family, operation, a, b, c, d, result, status] = head;
+        match family {
+            END => Entry::End,
+            NAME => Entry::Name { length: operation },
+            _ => Entry::Record(Head {
+                operation: [family, operation],
+                lengths: Lengths {
+                    places: [a, b, c, d, result],
+                },
+                status,
+            }),
+        }
+    }
 }
 
 // So many words, to the front of the numbers.
 fn read_numbers(count: usize, numbers: &mut [f64; ROOM]) {
     let count = in_room(count);
     let mut bytes = [0u8; BYTES];
-    io::read_full(0, &mut bytes[0..8 * count]);
+    io::read_full(0, &mut bytes[..8 * count]);
     put_numbers(&bytes, count, numbers);
 }
 
-fn lengths(head: [u8; 8]) -> [u8; 5] {
-    [head[2], head[3], head[4], head[5], head[6]]
+// A recorded call: the lengths that its operation asks for, the numbers of its inputs one behind the other, and what it answered.
+#[derive(Drop)]
+struct Record {
+    operation: Operation,
+    signed: bool,
+    lengths: Lengths,
+    given: [f64; ROOM],
+    answer: Answer,
 }
 
-// Whether the call of a trial answers as it must.
-fn passes(trial: usize, head: [u8; 8], given: &[f64; ROOM], answer: &[f64; ROOM]) -> bool {
-    let right = lengths(head);
-    let lengths = tried(right, trial);
-    let room = lengths[4] as usize;
-    if ROOM < room {
-        return false;
+impl Record {
+    // What stands behind a head.
+    fn read(head: Head) -> Record {
+        let signed = head.is_signed();
+        let Head {
+            operation,
+            lengths,
+            status,
+        } = head;
+        let mut given = [0.0; ROOM];
+        read_numbers(lengths.total(), &mut given);
+        let mut numbers = blank();
+        if status == 0 {
+            read_numbers(lengths.of_result(), &mut numbers);
+        }
+        Record {
+            operation: operation.into(),
+            signed,
+            lengths,
+            given,
+            answer: Answer {
+                status: u32::from(status),
+                numbers,
+            },
+        }
     }
-    let mut out = blank();
-    let got = call(head[0], head[1], given, lengths, &mut out[0..room]);
-    accepts(
-        right,
-        trial,
-        signed(head[0], head[1]),
-        head[7] as u64,
-        answer,
-        got as u64,
-        &out,
-    )
+
+    // What the call of a trial answers, if there is room for it.
+    fn call(&self, trial: Trial) -> Option<Answer> {
+        let lengths = trial.lengths(self.lengths);
+        let room = lengths.of_result();
+        if ROOM < room {
+            return None;
+        }
+        let mut numbers = blank();
+        let inputs = Inputs::of(&self.given, lengths);
+        let status = match self.operation.call(inputs, &mut numbers[..room]) {
+            Ok(answer) => status(answer),
+            Err(_) => UNPLAYED,
+        };
+        Some(Answer { status, numbers })
+    }
+
+    // Whether the call of a trial answers as it must.
+    fn passes(&self, trial: Trial) -> bool {
+        self.call(trial).is_some_and(|got| trial.accepts(
+            self.lengths,
+            self.signed,
+            &self.answer,
+            &got,
+        ))
+    }
+
+    // Whether it passes the call as it was recorded, and the ten of wrong lengths. A refused count is tried as it was recorded alone: it comes
+    // before some wrong lengths of a volume, and behind others.
+    fn agrees(&self) -> bool {
+        self.passes(Trial::Recorded)
+            && (self.answer.status == u32::from(Refusal::PlaneCount)
+                || (0..5).all(|at| self.passes(Trial::Shorter(at))
+                    && self.passes(Trial::Longer(at))))
+    }
 }
 
-// The ten trials of wrong lengths, and the call as it was recorded. A refused count is tried as it was recorded alone: it comes
-// before some wrong lengths of a volume, and behind others.
-fn passes_all(head: [u8; 8], given: &[f64; ROOM], answer: &[f64; ROOM]) -> bool {
-    if !passes(10, head, given, answer) {
-        return false;
-    }
-    if head[7] == 12 {
-        return true;
-    }
-    passes(0, head, given, answer)
-        && passes(1, head, given, answer)
-        && passes(2, head, given, answer)
-        && passes(3, head, given, answer)
-        && passes(4, head, given, answer)
-        && passes(5, head, given, answer)
-        && passes(6, head, given, answer)
-        && passes(7, head, given, answer)
-        && passes(8, head, given, answer)
-        && passes(9, head, given, answer)
+// How many of an operation's records agreed, and how many were read.
+#[derive(Clone, Copy, Default)]
+struct Tally {
+    agreed: u64,
+    read: u64,
 }
 
-// Reads a record after its head, and compares.
-fn next_agrees(head: [u8; 8]) -> bool {
-    let mut given = [0.0f64; ROOM];
-    let mut answer = blank();
-    read_numbers(total(lengths(head)), &mut given);
-    if head[7] == 0 {
-        read_numbers(head[6] as usize, &mut answer);
+impl Tally {
+    // Counts a record, and answers whether it is the operation's first that differs.
+    fn count(&mut self, agrees: bool) -> bool {
+        let first = !agrees && self.agreed == self.read;
+        self.agreed = self.agreed.wrapping_add(u64::from(agrees));
+        self.read = self.read.wrapping_add(1);
+        first
     }
-    passes_all(head, &given, &answer)
+}
+
+// Reads a name, and prints it with the counts of its operation's records. This and the other lines go by the kit's `io`: what `println!`
+// stands on calls more of the C library.
+fn print_tally(length: u8, tally: Tally) {
+    let mut name = [0u8; 255];
+    let name = &mut name[..usize::from(length)];
+    io::read_full(0, name);
+    io::write_all(1, name);
+    io::write_all(1, b" ");
+    io::print_decimal(1, tally.agreed);
+    io::write_all(1, b" of ");
+    io::print_decimal(1, tally.read);
+    io::write_all(1, b"\n");
 }
 
 fn print_difference(place: u64) {
@@ -90,50 +182,22 @@ fn print_difference(place: u64) {
     io::write_all(1, b" differs\n");
 }
 
-// Reads a name, and prints it.
-fn print_name(name: &mut [u8]) {
-    io::read_full(0, name);
-    io::write_all(1, name);
-}
-
-// Prints the name behind a head of a name, with how many of an operation's records agreed, and how many were read.
-fn print_counts(length: u8, agreed: u64, read: u64) {
-    let mut name = [0u8; 255];
-    print_name(&mut name[0..length as usize]);
-    io::write_all(1, b" ");
-    io::print_decimal(1, agreed);
-    io::write_all(1, b" of ");
-    io::print_decimal(1, read);
-    io::write_all(1, b"\n");
-}
-
-// Replays the next record, or prints the counts behind an operation's last, and answers whether there was one. Tells a record's place
-// where it is the operation's first that differs.
-fn replay_next(place: u64, agreed: &mut u64, read: &mut u64) -> bool {
-    let head = read_head();
-    if head[0] == END {
-        return false;
-    }
-    if head[0] == NAME {
-        print_counts(head[1], *agreed, *read);
-        *agreed = 0;
-        *read = 0;
-        return true;
-    }
-    if next_agrees(head) {
-        *agreed = std::num::wrapping_add_u64(*agreed, 1);
-    } else if *agreed == *read {
-        print_difference(place);
-    }
-    *read = std::num::wrapping_add_u64(*read, 1);
-    true
-}
-
+// Replays all records, and tells the place of the first of each operation that differs.
 pub(crate) fn replay_all() {
-    let mut agreed: u64 = 0;
-    let mut read: u64 = 0;
-    let mut place: u64 = 0;
-    while place < u64::MAX && replay_next(place, &mut agreed, &mut read) {
-        place += 1;
+    let mut tally = Tally::default();
+    for place in 0..u64::MAX {
+        match Entry::read() {
+            Entry::Record(head) => {
+                let agrees = Record::read(head).agrees();
+                if tally.count(agrees) {
+                    print_difference(place);
+                }
+            }
+            Entry::Name { length } => {
+                print_tally(length, tally);
+                tally = Tally::default();
+            }
+            Entry::End => break,
+        }
     }
 }

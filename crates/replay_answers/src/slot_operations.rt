@@ -1,129 +1,154 @@
-// The operations that answer places, bits or slots, each by its place. These are words. Each answers its status.
-ghost use Rattle.std.specs.Prelude.{◌<◌, ◌≤◌};
+// The operations that answer places, bits or slots. These are words.
+ghost use Rattle.std.specs.Prelude.{◌≤◌, length};
 
 use blocking::blocking_calls;
 use group::batch;
 use nearest::nearest_calls;
+use number::answer::Refusal;
 use number::format::from_bits;
 use number::slice::at;
+use number::slots::UNUSED;
 use rays::rays_calls;
+use replay::answer::put_number;
+use replay::inputs::Inputs;
 use verdict::planes_behind_calls;
 
-// What stands where nothing was answered: no place, and no number of slots.
-const BLANK: u32 = 12345;
-
-// A word that was answered, to its place in a slice.
-fn put_word(word: u32, to: usize, out: &mut [f64]) {
-    if word == BLANK {
-        return;
+// A word, to the front of a slice; that which stands for none is left out, as in a slot.
+fn put_word(word: u32, out: &mut [f64]) -> Result<(), Refusal> {
+    if word == Slots::BEFORE {
+        return Ok(());
     }
-    if to < out.len() {
-        out[to] = from_bits(word as u64);
-    }
+    put_number(Ok(from_bits(u64::from(word))), out)
 }
 
-// The slots that were answered, behind so many numbers of a slice.
-fn put_slots(slots: [u32; 4], from: usize, out: &mut [f64]) {
-    if out.len() < from {
-        return;
-    }
-    put_word(slots[0], from, out);
-    put_word(slots[1], from + 1, out);
-    put_word(slots[2], from + 2, out);
-    put_word(slots[3], from + 3, out);
+// As many slots as are lent at most, with what stands in them before a call.
+#[derive(Clone, Copy)]
+struct Slots {
+    words: [u32; 4],
 }
 
-// How many slots are lent: at most four.
-fn slot_count(count: usize) -> usize
-    ensures { result < 5 }
-{
-    match count {
-        1 => 1,
-        2 => 2,
-        3 => 3,
-        4 => 4,
-        _ => 0,
+impl Slots {
+    // Calls are lent plain words, so it is by this one, which none of them answers, that a slot is known which was left as it was.
+    const BEFORE: u32 = 12345;
+
+    fn new() -> Slots {
+        Slots {
+            words: [Slots::BEFORE; 4],
+        }
+    }
+
+    // So many slots, and none where there are fewer.
+    fn lend(&mut self, count: usize) -> &mut [u32] {
+        let count = if count <= 4 { count } else { 0 };
+        &mut self.words[..count]
+    }
+
+    // The words that were answered, each to its number of a slice.
+    fn put(&self, out: &mut [f64]) {
+        for (word, number) in self.words.iter().zip(out) {
+            if *word != Slots::BEFORE {
+                *number = from_bits(u64::from(*word));
+            }
+        }
     }
 }
 
 // The number found, and then the slots.
-fn within(a: &[f64], b: &[f64], limit: f64, out: &mut [f64]) -> u32 {
-    let mut found = BLANK;
-    let mut slots = [BLANK; 4];
-    if out.len() == 0 {
-        return nearest_calls::within(a, b, limit, &mut slots[0..0]).put(&mut found);
+fn within(a: &[f64], b: &[f64], limit: f64, out: &mut [f64]) -> Result<(), Refusal> {
+    let mut slots = Slots::new();
+    let count = out.len().saturating_sub(1);
+    let found = nearest_calls::within(a, b, limit, slots.lend(count));
+    if !out.is_empty() {
+        slots.put(&mut out[1..]);
     }
-    let count = slot_count(out.len() - 1);
-    let status = nearest_calls::within(a, b, limit, &mut slots[0..count]).put(&mut found);
-    put_word(found, 0, out);
-    put_slots(slots, 1, out);
-    status
+    put_word(found?, out)
 }
 
-fn intersects_bboxes(a: &[f64], b: &[f64], out: &mut [f64]) -> u32 {
-    let mut slots = [BLANK; 4];
-    let status = batch::intersects_bboxes(a, b, &mut slots[0..slot_count(out.len())]).status();
-    put_slots(slots, 0, out);
-    status
+fn intersects_bboxes(a: &[f64], b: &[f64], out: &mut [f64]) -> Result<(), Refusal> {
+    let mut slots = Slots::new();
+    let answer = batch::intersects_bboxes(a, b, slots.lend(out.len()));
+    slots.put(out);
+    answer
 }
 
-// How much of a room of rays is lent for numbers: what is too much of it, but nothing that it is short of.
-fn number_count(length: usize) -> usize
-    ensures { result ≤ length }
+// How much of a room of up to three rays is lent for numbers, five of the six of each: what is too much of it, but nothing that it is short of.
+fn number_count(room: &[f64]) -> usize
+    ensures { result ≤ length room.now }
 {
-    match length {
-        5 => 5,
-        6 => 5,
-        7 => 6,
-        11 => 10,
-        12 => 10,
-        13 => 11,
-        17 => 15,
-        18 => 15,
-        19 => 16,
+    let rays = room.len() / 6;
+    match room.len() % 6 {
+        0 if rays <= 3 => 5 * rays,
+        1 if 1 <= rays && rays <= 3 => 5 * rays + 1,
+        5 if rays <= 2 => 5 * rays + 5,
         _ => 0,
     }
 }
 
 // The five numbers of each ray, and then the slots.
-fn rays_intersect_triangle(a: &[f64], b: &[f64], c: &[f64], d: &[f64], out: &mut [f64]) -> u32 {
-    let mut slots = [BLANK; 4];
-    let numbers = number_count(out.len());
-    let count = slot_count(out.len() - numbers);
-    let status = rays_calls::intersect_triangle(
-        a,
-        b,
-        c,
-        d,
-        &mut out[0..numbers],
-        &mut slots[0..count],
-    ).status();
-    put_slots(slots, numbers, out);
-    status
+fn rays_intersect_triangle(inputs: Inputs<'_>, out: &mut [f64]) -> Result<(), Refusal> {
+    let Inputs { a, b, c, d } = inputs;
+    let mut slots = Slots::new();
+    let count = number_count(out);
+    let (numbers, rest) = out.split_at_mut(count);
+    let answer = rays_calls::intersect_triangle(a, b, c, d, numbers, slots.lend(rest.len()));
+    slots.put(rest);
+    answer
 }
 
-pub(crate) fn place_call(operation: u8, a: &[f64], b: &[f64], c: &[f64], out: &mut [f64]) -> u32 {
-    let mut word = BLANK;
-    let status = match operation {
-        1 => nearest_calls::nearest(a, b).put(&mut word),
-        2 => blocking_calls::blocking_plane(a, b, c).put(&mut word),
-        _ => planes_behind_calls::blocking_planes(a, b).put(&mut word),
-    };
-    put_word(word, 0, out);
-    status
+#[derive(Clone, Copy)]
+pub(crate) enum PlaceOperation {
+    Nearest,
+    BlockingPlane,
+    BlockingPlanes,
 }
 
-pub(crate) fn slots_call(
-    operation: u8,
-    a: &[f64],
-    b: &[f64],
-    c: &[f64],
-    d: &[f64],
-    out: &mut [f64],
-) -> u32 {
-    match operation {
-        1 => within(a, b, at(c, 0), out),
-        2 => intersects_bboxes(a, b, out),
-        _ => rays_intersect_triangle(a, b, c, d, out),
+impl From<u8> for PlaceOperation {
+    fn from(number: u8) -> PlaceOperation {
+        match number {
+            1 => PlaceOperation::Nearest,
+            2 => PlaceOperation::BlockingPlane,
+            _ => PlaceOperation::BlockingPlanes,
+        }
+    }
+}
+
+impl PlaceOperation {
+    pub(crate) fn call(self, inputs: Inputs<'_>, out: &mut [f64]) -> Result<(), Refusal> {
+        let Inputs { a, b, c, .. } = inputs;
+        let word = match self {
+            PlaceOperation::Nearest => nearest_calls::nearest(a, b)?.unwrap_or(UNUSED),
+            PlaceOperation::BlockingPlane => {
+                blocking_calls::blocking_plane(a, b, c)?.unwrap_or(UNUSED)
+            }
+            PlaceOperation::BlockingPlanes => planes_behind_calls::blocking_planes(a, b)?,
+        };
+        put_word(word, out)
+    }
+}
+
+#[derive(Clone, Copy)]
+pub(crate) enum SlotsOperation {
+    Within,
+    IntersectsBBoxes,
+    RaysIntersectTriangle,
+}
+
+impl From<u8> for SlotsOperation {
+    fn from(number: u8) -> SlotsOperation {
+        match number {
+            1 => SlotsOperation::Within,
+            2 => SlotsOperation::IntersectsBBoxes,
+            _ => SlotsOperation::RaysIntersectTriangle,
+        }
+    }
+}
+
+impl SlotsOperation {
+    pub(crate) fn call(self, inputs: Inputs<'_>, out: &mut [f64]) -> Result<(), Refusal> {
+        match self {
+            SlotsOperation::Within => within(inputs.a, inputs.b, at(inputs.c, 0), out),
+            SlotsOperation::IntersectsBBoxes => intersects_bboxes(inputs.a, inputs.b, out),
+            SlotsOperation::RaysIntersectTriangle => rays_intersect_triangle(inputs, out),
+        }
     }
 }

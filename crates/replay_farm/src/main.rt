@@ -3,13 +3,9 @@
 #![tactic(auto)]
 
 use farm::lines::lines;
-use farm::text::front;
+use input::FILE_ROOM;
 use number::bytes::word_32;
-use number::limits::LARGEST_FILE;
 use reason::explain::explain;
-
-// One byte more than the largest file has.
-const FILE_ROOM: usize = LARGEST_FILE + 1;
 
 fn print_place(place: u64) {
     io::write_all(1, b"file ");
@@ -22,19 +18,17 @@ fn replay_file(place: u64, room: &mut [u8], size: usize) {
     if room.len() < size {
         return;
     }
-    let file = &mut room[0..size];
+    let file = &mut room[..size];
     io::read_full(0, file);
     print_place(place);
-    let text = lines(file);
-    io::write_all(1, front(&text.bytes, text.size));
-    let explained = explain(file);
-    io::write_all(1, front(&explained.bytes, explained.size));
+    io::write_all(1, lines(file).as_slice());
+    io::write_all(1, explain(file).as_slice());
 }
 
 // Replays the next file, and answers whether there was one.
 fn replay_next(place: u64) -> bool {
     let mut head = [0u8; 4];
-    if io::read_full(0, &mut head) < 4 {
+    if io::read_full(0, &mut head) < head.len() {
         return false;
     }
     let mut room = [0u8; FILE_ROOM];
@@ -43,8 +37,9 @@ fn replay_next(place: u64) -> bool {
 }
 
 fn main() {
-    let mut place: u64 = 1;
-    while place < u64::MAX && replay_next(place) {
-        place += 1;
+    for place in 1..u64::MAX {
+        if !replay_next(place) {
+            break;
+        }
     }
 }

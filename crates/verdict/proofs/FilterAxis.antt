@@ -1,6 +1,6 @@
 -- Along one axis: the term of the reach times the length, and the term of the estimate, are close to the product of the normal's number and that of the furthest corner. The idea: each is a few
 -- roundings away from it. Where the number made unit length is lost it may point toward the other end of the range, and both terms are within the error. Assumes nothing.
-use Rattle.std.proofs.Common.{◌≡◌, ℕ, ◌+◌, ◌*◌, ◌^◌, ◌<◌, ◌≤◌, Bool, true, false, cond, T, ◌⊎◌, sym, refl, ◌∙◌, inl, inr, le_trans, mul-le-mul_right, mul-le-mul, mul-le-mul_left, arith}
+use Rattle.std.proofs.Common.{◌≡◌, ℕ, ◌+◌, ◌*◌, ◌^◌, ◌<◌, ◌≤◌, Bool, true, false, cond, ◌⊎◌, sym, refl, ◌∙◌, inl, inr, le_trans, mul-le-mul_right, mul-le-mul, mul-le-mul_left, arith}
 use native.Mathlib.Decide.{dec_lt}
 use lib.Count.{count_trailing_zeros}
 use lib.Ieee.{Float, unlike, le, round, units, odd, size, span, climb}

@@ -1,11 +1,25 @@
--- What the test of a box record's flag says of its definition. Assumes nothing.
-use Rattle.std.proofs.Common.{◌≡◌, Bool, true, false, not, List, sym, refl, ap, ◌∙◌, true≢false}
+-- The number of a flag, and what the test of a box record's flag says of its definition. Assumes nothing.
+use Rattle.std.proofs.Common.{◌≡◌, Bool, true, false, not, List, sym, refl, ap, ◌∙◌, true≢false, pos}
 use mathlib.Core.Bool.{false≢true}
-use lib.Ieee.{Float}
+use lib.Count.{count_trailing_zeros}
+use lib.Ieee.{Float, binary64, of_int, round, units, odd, size, span, climb}
+use Rattle.std.specs.Int.{from_bool}
 use Rattle.number.specs.Limits.{flag_place}
 use Rattle.number.specs.Slice.{at}
-use Rattle.verdict.specs.BBox.{is_flag}
+use Rattle.verdict.specs.BBox.{flag_of, is_flag}
 use Rattle.verdict.specs.BBoxCalls.{flagged}
+use Rattle.verdict.specs.Ray.{front_flag}
+
+-- 1 or 0, as the conversion gives them
+pub flag_number : (b : Bool) → of_int binary64 (pos (from_bool b)) ≡ flag_of b
+unfolding of_int round units odd size span climb count_trailing_zeros
+flag_number true = refl
+flag_number false = refl
+
+pub front_number : (b : Bool) → of_int binary64 (pos (from_bool b)) ≡ front_flag b
+unfolding of_int round units odd size span climb count_trailing_zeros
+front_number true = refl
+front_number false = refl
 
 pub negated : (z b : Bool) → not z ≡ b → z ≡ not b
 negated true true e = absurd (false≢true e)

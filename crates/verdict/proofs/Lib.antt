@@ -6,9 +6,10 @@ pub mod Flags
 pub mod Boxes
 pub mod SpanLeft
 pub mod Between
+pub mod Over
+pub mod PassedOn
 pub mod PlaneCount
 pub mod PlanesHeld
-pub mod ViewLists
 pub mod SideBySide
 pub mod ZerosKept
 pub mod ReachSum

@@ -7,7 +7,7 @@ use Rattle.number.specs.Answer.{Outcome, refused, outcome, and_then, unless, has
 use Rattle.number.specs.Slice.{at}
 use Rattle.number.proofs.Ways.{stops, passes}
 use Rattle.verdict.specs.View.{volume_length, plane_count_of, planes_held}
-use Rattle.verdict.specs.Steps.Passes.{HasPlanes, IsView}
+use Rattle.verdict.specs.Steps.Passes.{IsView}
 use Rattle.verdict.proofs.PlaneCount.{count_within}
 
 -- ---- what comes of a result, and of a refusal
@@ -67,10 +67,3 @@ held s n e = go (leb (volume_length fewest_planes) (length s)) (plane_count_of (
         let l = own_length k (has (volume_length k) s) refl g in
         let w = count_within (at s 0) k f in
         subst (IsView s) l.1 (record { fewest = w.0; most = w.1; numbers = l.0 })
-
-pub has_planes : {s : List Float} {n : ℕ} → IsView s n → HasPlanes s n
-has_planes h = (h.most, omega (arith, h.numbers))
-
--- the original planes among them
-pub has_original : {s : List Float} {n : ℕ} → IsView s n → HasPlanes s fewest_planes
-has_original h = (omega arith, omega (arith, h.fewest, h.numbers))

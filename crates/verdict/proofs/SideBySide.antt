@@ -166,9 +166,13 @@ module _ (v l : List Float) (o : Outcome ℕ) where
   pub by_room : (n : ℕ) (b : Bool) → outcome n ≡ o → has rows_length l ≡ b → unless b l (with_planes v n l) ≡ rows_loaded o v l
   by_room n b e f = sym (ap (λ (c : Bool). unless c l (with_planes v n l)) f) ∙ ap (λ (x : Outcome ℕ). rows_loaded x v l) e
 
--- what is then read from rows that were all zeros before
-pub planes_held_in : (n : ℕ) (v k : List Float) → outcome n ≡ planes_held v → k ≡ rows_loaded (planes_held v) v (replicate rows_length (of_bits binary64 0)) → planes_in_rows k n ≡ planes_of v n
-planes_held_in n v k e f =
+-- what is read of rows that were all zeros before, once the first n planes of a record are gathered
+pub gathered : (v k : List Float) (n m : ℕ) → n ≤ most_planes → k ≡ with_planes v n (replicate rows_length (of_bits binary64 0)) → m ≡ n → planes_in_rows k m ≡ planes_of v n
+gathered v k n m h e f =
+    ap (planes_in_rows k) f ∙ same_planes v (replicate rows_length (of_bits binary64 0)) (length-replicate rows_length (of_bits binary64 0)) n k h e
+
+-- and once a record is loaded
+pub loaded : (n : ℕ) (v k : List Float) (m : ℕ) → outcome n ≡ planes_held v → k ≡ rows_loaded (planes_held v) v (replicate rows_length (of_bits binary64 0)) → m ≡ n → planes_in_rows k m ≡ planes_of v n
+loaded n v k m e f g =
     let l = replicate rows_length (of_bits binary64 0) in
-    let room = length-replicate rows_length (of_bits binary64 0) in
-    same_planes v l room n k (held v n e).most (f ∙ sym (by_room v l (planes_held v) n true e (eq-eqb _ _ room)))
+    gathered v k n m (held v n e).most (f ∙ sym (by_room v l (planes_held v) n true e (eq-eqb _ _ (length-replicate rows_length (of_bits binary64 0))))) g

@@ -1,6 +1,6 @@
 -- Worked numbers, odd inputs and slips a rater would miss, on planes and rays, and finite ones that overflow, computed from the definitions. Assumes
 -- nothing.
-use Rattle.std.proofs.Common.{◌≡◌, ◌*◌, ◌^◌, Bool, true, false, cond, ◌||◌, eqb, leb, pos, negsuc, refl, ap}
+use Rattle.std.proofs.Common.{◌≡◌, ◌*◌, ◌^◌, Bool, true, false, cond, ◌||◌, eqb, leb, pos, negsuc, refl, ap, None, Some, Ok}
 use lib.Count.{count_trailing_zeros}
 use lib.Ieee.{Float, nan, fin, add, sub, mul, div, neg, lt, le, eq, is_nan, round, sum, units, odd, size, span, climb}
 use Rattle.number.specs.Arithmetic.{abs_of, max_of}
@@ -16,8 +16,6 @@ use Rattle.matrix.specs.declared.matrix.Mat4d.{Mat4d}
 use Rattle.matrix.specs.declared.range.Range3d.{Range3d}
 use Rattle.verdict.specs.declared.plane.Plane.{Plane}
 use Rattle.verdict.specs.declared.ray.Ray.{Ray}
-use Rattle.verdict.specs.declared.ray.PlaneHit.TheVariants.{At, Miss}
-use Rattle.verdict.specs.declared.ray.TriangleHit.TheVariants.{Hit}
 use Rattle.verdict.specs.Plane.{plane, offset, from_equation, distance_to, on_positive_side}
 use Rattle.verdict.specs.BBox.{box, is_degenerate}
 use Rattle.verdict.specs.Frustum.{crossing}
@@ -87,16 +85,16 @@ abbrev down : Float → Float → Float → Ray
 down x y speed = ray (vec x y one) (vec o o (neg speed))
 
 -- "9e-11 misses, 1e-10 goes on", to a distance of 1e10
-too_flat : plane_hit (down o o (rounded 9 (10 ^ 11))) ground ≡ Miss
+too_flat : plane_hit (down o o (rounded 9 (10 ^ 11))) ground ≡ None
 unfolding plane_hit abs_of add sub mul div neg lt le
 too_flat = refl
 
-steep_enough : plane_hit (down o o min_length) ground ≡ At (fin false 9765625 (pos 10)) true
+steep_enough : plane_hit (down o o min_length) ground ≡ Some (record { distance = fin false 9765625 (pos 10); front = true })
 unfolding plane_hit abs_of add sub mul div neg lt le
 steep_enough = refl
 
 -- "Distance zero hits."
-from_the_ground : plane_hit (ray (vec o o o) (vec o o (neg one))) ground ≡ At (neg o) true
+from_the_ground : plane_hit (ray (vec o o o) (vec o o (neg one))) ground ≡ Some (record { distance = neg o; front = true })
 unfolding plane_hit abs_of add sub mul div neg lt le
 from_the_ground = refl
 
@@ -122,7 +120,7 @@ abbrev fifth : Float
 fifth = fin false 3602879701896397 (negsuc 53)
 
 -- "Keeping gamma unrounded changes a hit's weights": it is 11744051 / 2 ^ 24, and not 0.7
-rounded_gamma : triangle_hit (down tenth fifth one) corner (vec one o o) (vec o one o) ≡ Hit (fin false 1 (pos 0)) (fin false 11744051 (negsuc 23)) tenth fifth true
+rounded_gamma : triangle_hit (down tenth fifth one) corner (vec one o o) (vec o one o) ≡ Ok (record { distance = fin false 1 (pos 0); gamma = fin false 11744051 (negsuc 23); alpha = tenth; beta = fifth; front = true })
 unfolding triangle_hit hit_of meeting_of plane_hit faced weighed beta_of alpha_of gamma_of settled narrow_of normalized length_of sqrt_of abs_of max_of is_nan add sub mul div neg lt le
 rounded_gamma = refl
 

@@ -1,21 +1,18 @@
 -- Boxes at any angle, as Gf's documentation has them: a range, and the matrix that places it in the world. Definitions only.
-use Rattle.std.specs.Prelude.{◌+◌, ◌*◌, ◌^◌, Bool, true, false, cond, not, ◌||◌, List, [], ◌∷◌, ◌++◌, Float}
+use Rattle.std.specs.Prelude.{◌+◌, ◌*◌, ◌^◌, Bool, false, cond, not, ◌||◌, List, [], ◌∷◌, ◌++◌, Float, None, Option, Some}
 use Rattle.std.specs.Float.Ieee.{lt, le, eq}
 use Rattle.number.specs.Limits.{range_length, flag_place}
 use Rattle.number.specs.Arithmetic.{◌⊖◌, ◌⊗◌, abs_of, max_of}
 use Rattle.number.specs.Slice.{at}
 use Rattle.matrix.specs.Constants.{rounded, positive_zero, one}
 use Rattle.matrix.specs.Matrix.{entries, matrix, identity, product, determinant3}
-use Rattle.matrix.specs.Inverse.{inverse_above}
+use Rattle.matrix.specs.Inverse.{inverse_above, has_inverse}
 use Rattle.matrix.specs.Transform.{transformed as transformed_point}
-use Rattle.matrix.specs.Range.{range, range_of, bounds, is_empty, union, size, midpoint, transformed}
+use Rattle.matrix.specs.Range.{range_of, bounds, is_empty, union, size, midpoint, transformed}
 use Rattle.matrix.specs.declared.vec.Vec3d.{Vec3d}
 use Rattle.matrix.specs.declared.matrix.Mat4d.{Mat4d}
 use Rattle.matrix.specs.declared.range.Range3d.{Range3d}
-use Rattle.matrix.specs.declared.inverse.Inverted.{Inverted}
-use Rattle.matrix.specs.declared.inverse.Inverted.TheVariants.{Matrix, Singular}
 use Rattle.verdict.specs.declared.bbox.BBox3d.{BBox3d}
-use Rattle.verdict.specs.declared.bbox.Inverse.{Inverse}
 
 -- ---- its numbers, "Box 23: range, matrix, zero-area flag 0 or 1"
 
@@ -41,17 +38,12 @@ is_flag x = eq x positive_zero || eq x one
 abbrev pub box_epsilon : Float
 box_epsilon = rounded 1 (10 ^ 13)
 
--- "BBox3d's optional inverse becomes a flag beside a matrix", which is the identity where there is none
-abbrev pub flag_beside : Inverted → Inverse
-flag_beside (Matrix m) = record { matrix = m; exists = true }
-flag_beside Singular = record { matrix = identity; exists = false }
-
-abbrev pub into_box : BBox3d → Inverse
-into_box b = flag_beside (inverse_above box_epsilon b.matrix)
+abbrev pub into_box : BBox3d → Option Mat4d
+into_box b = inverse_above box_epsilon b.matrix
 
 -- it has none
 abbrev pub is_degenerate : BBox3d → Bool
-is_degenerate b = not (into_box b).exists
+is_degenerate b = not (has_inverse (into_box b))
 
 -- ---- in the world
 
@@ -95,12 +87,12 @@ aligned a b = box (union (aligned_range a) (aligned_range b)) identity false
 
 -- Of two boxes whose ranges are not empty, with the inverses of their matrices. There is a candidate in the space of each that has an inverse, and of two the
 -- smaller is taken; where neither has one, the range is in the world.
-unfoldable pub merged : BBox3d → BBox3d → Inverse → Inverse → BBox3d
+unfoldable pub merged : BBox3d → BBox3d → Option Mat4d → Option Mat4d → BBox3d
 unfolding extended smaller_box
-merged a b i j =
-    cond i.exists
-    (cond j.exists (smaller_box (extended a b i.matrix) (extended b a j.matrix)) (extended a b i.matrix))
-    (cond j.exists (extended b a j.matrix) (aligned a b))
+merged a b (Some i) (Some j) = smaller_box (extended a b i) (extended b a j)
+merged a b (Some i) None = extended a b i
+merged a b None (Some j) = extended b a j
+merged a b None None = aligned a b
 
 -- where a range is empty it is the other box, and b where both are
 unfoldable pub held : BBox3d → BBox3d → BBox3d

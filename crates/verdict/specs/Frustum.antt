@@ -1,7 +1,7 @@
 -- The verdicts of a view, in the operation order of frustum.rs. A view is a list of planes that have it on their positive sides, six of them in gf and any
 -- number here; and for triangles a list of rays. They are asked of finite numbers alone, so that a NaN is met only where an operation
 -- overflows: the distance of the plane 2,-2,0;0 from the point 1e308,1e308,0 is one, and is not on the positive side. Definitions only.
-use Rattle.std.specs.Prelude.{ℕ, Bool, true, false, cond, not, ◌&&◌, ◌||◌, List, [], ◌∷◌, take, Float}
+use Rattle.std.specs.Prelude.{ℕ, Bool, true, false, cond, not, ◌&&◌, ◌||◌, List, [], ◌∷◌, take, Float, None, Option, Some, Result, Ok, Err}
 use Rattle.std.specs.Bool.{beq}
 use Rattle.std.specs.Float.Ieee.{lt, neg}
 use Rattle.number.specs.Every.{every, every_below, some_below}
@@ -17,8 +17,8 @@ use Rattle.matrix.specs.declared.matrix.Mat4d.{Mat4d}
 use Rattle.verdict.specs.declared.plane.Plane.{Plane}
 use Rattle.verdict.specs.declared.bbox.BBox3d.{BBox3d}
 use Rattle.verdict.specs.declared.ray.Ray.{Ray}
+use Rattle.number.specs.declared.answer.Refusal.{Refusal}
 use Rattle.verdict.specs.declared.ray.TriangleHit.{TriangleHit}
-use Rattle.verdict.specs.declared.ray.TriangleHit.TheVariants.{Hit, Refused}
 use Rattle.verdict.specs.Plane.{distance_to, on_positive_side, reaches_positive_side, under_inverse_transpose}
 use Rattle.verdict.specs.Ray.{triangle_hit}
 use Rattle.verdict.specs.View.{ray_count, original_planes, near_and_far}
@@ -88,9 +88,9 @@ has_corner a b c p = on_positive_side p a || on_positive_side p b || on_positive
 abbrev pub has_corners : Vec3d → Vec3d → Vec3d → Plane → Bool
 has_corners a b c p = on_positive_side p a && on_positive_side p b && on_positive_side p c
 
-abbrev pub is_hit : TriangleHit → Bool
-is_hit (Hit d g a b front) = true
-is_hit (Refused r) = false
+abbrev pub is_hit : Result TriangleHit Refusal → Bool
+is_hit (Ok h) = true
+is_hit (Err r) = false
 
 -- some ray meets the triangle
 unfoldable pub some_hit : List Ray → Vec3d → Vec3d → Vec3d → Bool

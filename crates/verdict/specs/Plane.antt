@@ -1,6 +1,6 @@
 -- Planes, as Gf's documentation has them: a normal, which the verdicts do not need to be of unit length, and a distance along it, floats of any kind.
 -- Definitions and a statement only.
-use Rattle.std.specs.Prelude.{◌≡◌, Bool, true, cond, not, ◌&&◌, List, [], ◌∷◌, ◌++◌, Float}
+use Rattle.std.specs.Prelude.{◌≡◌, Bool, true, cond, not, ◌&&◌, List, [], ◌∷◌, ◌++◌, Float, None, Option, Some}
 use Rattle.std.specs.Float.Ieee.{le, eq, neg}
 use Rattle.number.specs.Answer.{Outcome, refused, outcome}
 use Rattle.number.specs.Arithmetic.{◌⊕◌, ◌⊖◌, ◌⊗◌, ◌⊘◌, zero_of}
@@ -15,11 +15,7 @@ use Rattle.matrix.specs.declared.vec.Vec3d.{Vec3d}
 use Rattle.matrix.specs.declared.vec.Vec4d.{Vec4d}
 use Rattle.matrix.specs.declared.matrix.Mat4d.{Mat4d}
 use Rattle.matrix.specs.declared.range.Range3d.{Range3d}
-use Rattle.matrix.specs.declared.inverse.Inverted.{Inverted}
-use Rattle.matrix.specs.declared.inverse.Inverted.TheVariants.{Matrix, Singular as NoInverse}
 use Rattle.verdict.specs.declared.plane.Plane.{Plane}
-use Rattle.verdict.specs.declared.plane.Transformed.{Transformed}
-use Rattle.verdict.specs.declared.plane.Transformed.TheVariants.{To, Singular}
 
 -- ---- its numbers, "plane 4 (normal, distance)"
 
@@ -89,14 +85,14 @@ ReachFromEitherZero = (s : Bool) (d : Float) (n c : Vec3d) → le d (zero_of s �
 abbrev pub under_inverse_transpose : Mat4d → Plane → Plane
 under_inverse_transpose m p = from_equation (homogeneous m (equation p))
 
-abbrev pub carried : Inverted → Plane → Transformed
-carried (Matrix m) p = To (under_inverse_transpose (transpose m) p)
-carried NoInverse p = Singular
+abbrev pub carried : Option Mat4d → Plane → Option Plane
+carried (Some m) p = Some (under_inverse_transpose (transpose m) p)
+carried None p = None
 
-unfoldable pub transformed : Mat4d → Plane → Transformed
+unfoldable pub transformed : Mat4d → Plane → Option Plane
 transformed m p = carried (inverse m) p
 
 -- what its answer comes to, by the numbers of the refusals: "4 is singular"
-abbrev pub transformed_numbers : Transformed → Outcome (List Float)
-transformed_numbers (To p) = outcome (numbers p)
-transformed_numbers Singular = refused 4
+abbrev pub transformed_numbers : Option Plane → Outcome (List Float)
+transformed_numbers (Some p) = outcome (numbers p)
+transformed_numbers None = refused 4

@@ -1,10 +1,11 @@
 -- Rays, and where they meet planes and triangles, as Gf's documentation has them. Definitions only.
-use Rattle.std.specs.Prelude.{◌+◌, Bool, true, false, cond, not, ◌&&◌, List, [], ◌∷◌, ◌++◌, Float}
+use Rattle.std.specs.Prelude.{◌+◌, Bool, true, false, cond, not, ◌&&◌, List, [], ◌∷◌, ◌++◌, Float, None, Option, Some, Result, Ok, Err}
 use Rattle.std.specs.Float.Ieee.{lt, le, neg}
 use Rattle.number.specs.Answer.{Outcome, refused, outcome, number_of, unless}
 use Rattle.number.specs.Arithmetic.{◌⊕◌, ◌⊖◌, ◌⊗◌, ◌⊘◌, abs_of}
 use Rattle.number.specs.Format.{narrow_of, widen_of}
 use Rattle.number.specs.Slice.{at}
+use Rattle.number.specs.declared.answer.Refusal.{Refusal}
 use Rattle.number.specs.declared.answer.Refusal.TheVariants.{Miss as MissRefusal}
 use Rattle.matrix.specs.Constants.{positive_zero, one, min_length}
 use Rattle.matrix.specs.Vec.{coordinates, vec3, vec3_of, sum, difference, multiple, dot}
@@ -14,9 +15,7 @@ use Rattle.matrix.specs.declared.matrix.Mat4d.{Mat4d}
 use Rattle.verdict.specs.declared.plane.Plane.{Plane}
 use Rattle.verdict.specs.declared.ray.Ray.{Ray}
 use Rattle.verdict.specs.declared.ray.PlaneHit.{PlaneHit}
-use Rattle.verdict.specs.declared.ray.PlaneHit.TheVariants.{At, Miss}
 use Rattle.verdict.specs.declared.ray.TriangleHit.{TriangleHit}
-use Rattle.verdict.specs.declared.ray.TriangleHit.TheVariants.{Hit, Refused}
 use Rattle.verdict.specs.declared.ray.Axis.{Axis}
 use Rattle.verdict.specs.declared.ray.Axis.TheVariants.{X, Y, Z}
 use Rattle.verdict.specs.declared.ray.Flat.{Flat}
@@ -57,10 +56,10 @@ distance_along r p = dot (difference (multiple p.normal p.distance) r.start) p.n
 
 -- "`intersect_plane` misses if |facing| < 1e-10: 9e-11 misses, 1e-10 goes on. Distance zero hits." The front is the positive side: a ray that meets it runs
 -- against the normal.
-unfoldable pub plane_hit : Ray → Plane → PlaneHit
+unfoldable pub plane_hit : Ray → Plane → Option PlaneHit
 plane_hit r p =
-    cond (lt (abs_of (along_normal r p)) min_length) Miss
-    (cond (le positive_zero (distance_along r p)) (At (distance_along r p) (lt (along_normal r p) positive_zero)) Miss)
+    cond (lt (abs_of (along_normal r p)) min_length) None
+    (cond (le positive_zero (distance_along r p)) (Some (record { distance = distance_along r p; front = lt (along_normal r p) positive_zero })) None)
 
 -- ---- where it meets a triangle
 
@@ -108,11 +107,14 @@ weighed distance front d0 d1 d2 =
     let beta = beta_of d0 d1 d2 in
     let alpha = alpha_of d0 d1 d2 beta in
     let gamma = gamma_of alpha beta in
-    record { distance = distance; gamma = gamma; alpha = alpha; beta = beta; front = front; hit = in_span beta && not_negative alpha && not_negative gamma }
+    record {
+      numbers = record { distance = distance; gamma = gamma; alpha = alpha; beta = beta; front = front };
+      hit = in_span beta && not_negative alpha && not_negative gamma;
+    }
 
 -- a ray that misses the plane
 abbrev pub no_meeting : Meeting
-no_meeting = let o = positive_zero in record { distance = o; gamma = o; alpha = o; beta = o; front = false; hit = false }
+no_meeting = let o = positive_zero in record { numbers = record { distance = o; gamma = o; alpha = o; beta = o; front = false }; hit = false }
 
 -- What the hits of a triangle share: its plane, its first point, the axis that the plane faces, and the second and the third point from the first, projected.
 abbrev pub triangle_of : Vec3d → Vec3d → Vec3d → Triangle
@@ -121,21 +123,21 @@ triangle_of p0 p1 p2 =
     let a = faced p.normal in
     record { plane = p; first = p0; axis = a; second = projected a (difference p1 p0); third = projected a (difference p2 p0) }
 
-abbrev pub meeting_at : PlaneHit → Ray → Triangle → Meeting
-meeting_at (At d front) r t = weighed d front (projected t.axis (difference (point_at r d) t.first)) t.second t.third
-meeting_at Miss r t = no_meeting
+abbrev pub meeting_at : Option PlaneHit → Ray → Triangle → Meeting
+meeting_at (Some h) r t = weighed h.distance h.front (projected t.axis (difference (point_at r h.distance) t.first)) t.second t.third
+meeting_at None r t = no_meeting
 
 unfoldable pub meeting_of : Ray → Triangle → Meeting
 meeting_of r t = meeting_at (plane_hit r t.plane) r t
 
 -- the answer: the numbers of a hit, or the miss
-abbrev pub hit_in : Meeting → TriangleHit
-hit_in m = unless m.hit (Refused MissRefusal) (Hit m.distance m.gamma m.alpha m.beta m.front)
+abbrev pub hit_in : Meeting → Result TriangleHit Refusal
+hit_in m = unless m.hit (Err MissRefusal) (Ok m.numbers)
 
-unfoldable pub hit_of : Ray → Triangle → TriangleHit
+unfoldable pub hit_of : Ray → Triangle → Result TriangleHit Refusal
 hit_of r t = hit_in (meeting_of r t)
 
-unfoldable pub triangle_hit : Ray → Vec3d → Vec3d → Vec3d → TriangleHit
+unfoldable pub triangle_hit : Ray → Vec3d → Vec3d → Vec3d → Result TriangleHit Refusal
 triangle_hit r p0 p1 p2 = hit_of r (triangle_of p0 p1 p2)
 
 -- ---- what each answer comes to, by the numbers of the refusals
@@ -146,11 +148,17 @@ front_flag true = one
 front_flag false = positive_zero
 
 -- "A plane hit writes distance and front flag." "5 a miss"
-abbrev pub plane_hit_numbers : PlaneHit → Outcome (List Float)
-plane_hit_numbers (At d front) = outcome (d ∷ front_flag front ∷ [])
-plane_hit_numbers Miss = refused 5
+abbrev pub plane_numbers : PlaneHit → List Float
+plane_numbers h = h.distance ∷ front_flag h.front ∷ []
+
+abbrev pub plane_hit_numbers : Option PlaneHit → Outcome (List Float)
+plane_hit_numbers (Some h) = outcome (plane_numbers h)
+plane_hit_numbers None = refused 5
 
 -- "hit 5 (distance, gamma, alpha, beta, front 1 or 0)"
-abbrev pub triangle_hit_numbers : TriangleHit → Outcome (List Float)
-triangle_hit_numbers (Hit d g a b front) = outcome (d ∷ g ∷ a ∷ b ∷ front_flag front ∷ [])
-triangle_hit_numbers (Refused r) = refused (number_of r)
+abbrev pub triangle_numbers : TriangleHit → List Float
+triangle_numbers h = h.distance ∷ h.gamma ∷ h.alpha ∷ h.beta ∷ front_flag h.front ∷ []
+
+abbrev pub triangle_hit_numbers : Result TriangleHit Refusal → Outcome (List Float)
+triangle_hit_numbers (Ok h) = outcome (triangle_numbers h)
+triangle_hit_numbers (Err r) = refused (number_of r)

@@ -3,15 +3,13 @@
 use Rattle.std.specs.Prelude.{ℕ, ◌+◌, ◌*◌, Bool, ◌&&◌, List, length, take, drop, nat_le, Float}
 use Rattle.std.specs.Float.Ieee.{le, eq, to_unsigned}
 use Rattle.number.specs.Limits.{fewest_planes, most_planes}
-use Rattle.number.specs.Answer.{Outcome, refused, outcome, and_then, unless, has, number_of}
+use Rattle.number.specs.Answer.{Outcome, refused, outcome, and_then, unless, has}
 use Rattle.number.specs.Tabulate.{tabulate}
 use Rattle.number.specs.Slice.{at}
 use Rattle.matrix.specs.Constants.{rounded}
 use Rattle.matrix.specs.Vec.{vec3}
 use Rattle.verdict.specs.declared.plane.Plane.{Plane}
 use Rattle.verdict.specs.declared.ray.Ray.{Ray}
-use Rattle.verdict.specs.declared.view.Held.{Held}
-use Rattle.verdict.specs.declared.view.Held.TheVariants.{Planes, Refused}
 use Rattle.verdict.specs.Plane.{plane}
 use Rattle.verdict.specs.Ray.{ray}
 
@@ -56,11 +54,6 @@ unfolding plane_count_of
 planes_held s =
     unless (nat_le (volume_length fewest_planes) (length s)) (refused 1)
     (and_then (plane_count_of (at s 0)) (λ n. unless (has (volume_length n) s) (refused 1) (outcome n)))
-
--- the answers of the functions that look for a count
-abbrev pub held_of : Held → Outcome ℕ
-held_of (Planes n) = outcome n
-held_of (Refused r) = refused (number_of r)
 
 -- ---- its planes and its rays
 

@@ -1,16 +1,15 @@
 // Boxes: ranges, each with the matrix that places it in the world.
-ghost use Rattle.std.specs.Prelude.{◌≡◌, ◌||◌, length};
+ghost use Rattle.std.specs.Prelude.{◌≡◌, length};
 ghost use Rattle.number.specs.Slice.{stored};
-ghost use Rattle.verdict.specs.BBox.{flag_of, is_flag, numbers, box_of, into_box, is_degenerate, aligned_range, centroid, volume, transformed_box, extended, preferred, smaller_box, aligned, merged, held, combined};
+ghost use Rattle.verdict.specs.BBox.{is_flag, numbers, box_of, into_box, is_degenerate, aligned_range, centroid, volume, transformed_box, extended, preferred, smaller_box, aligned, merged, held, combined};
 
 use crate::record::{vec3_at, vec4_at};
-use matrix::inverse::Inverted;
 use matrix::matrix::Mat4d;
 use matrix::range::Range3d;
 use matrix::vec::{Vec3d, Vec4d};
-use number::limits::BOX_LENGTH;
+use number::limits::{BOX_LENGTH, FLAG_PLACE, RANGE_LENGTH};
+use number::order;
 use number::slice::at;
-use number::{order, slice};
 
 // A range, the matrix that places it, and the zero-area flag.
 #[derive(Clone, Copy)]
@@ -20,80 +19,44 @@ pub struct BBox3d {
     pub flag: bool,
 }
 
-// The inverse of a box's matrix, with a flag that says whether there is one. Without one the matrix is the identity.
-#[derive(Clone, Copy)]
-pub struct Inverse {
-    pub matrix: Mat4d,
-    pub exists: bool,
-}
-
 // A box's matrix has an inverse if its determinant is larger than this in size.
 const PRECISION_LIMIT: f64 = 1e-13;
 
 // Whether a number is one of a flag's: a zero of either sign, or 1.
+#[tactic(auto, using(matrix::proofs::Literals::zero_bits, matrix::proofs::Literals::one_bits))]
 pub fn is_flag(x: f64) -> bool
     ensures { result ≡ is_flag x }
 {
-    if x == 0.0 {
-        return true;
-    }
-    x == 1.0
+    (x == 0.0) | (x == 1.0)
 }
 
 // Whether the first of two volumes is taken: it is smaller, or larger by the tolerance at most.
+#[tactic(auto, using(matrix::proofs::Literals::min_length_bits, crate::proofs::Literals::millionth_bits))]
 fn preferred(v: f64, w: f64) -> bool
     ensures { result ≡ preferred v w }
 {
     let tolerance = order::max(1e-6 * order::abs(order::max(v, w)), 1e-10);
-    if order::abs(v - w) <= tolerance {
-        return true;
-    }
-    v < w
-}
-
-// The number of a flag.
-fn flag_number(b: bool) -> f64
-    ensures { result ≡ flag_of b }
-{
-    if b {
-        return 1.0;
-    }
-    0.0
-}
-
-fn either(a: bool, b: bool) -> bool
-    ensures { result ≡ (a || b) }
-{
-    if a {
-        return true;
-    }
-    b
+    (order::abs(v - w) <= tolerance) | (v < w)
 }
 
 impl BBox3d {
     // The inverse of its matrix, if it has one.
-    pub fn inverse(self) -> Inverse
+    #[tactic(auto, using(crate::proofs::Literals::box_epsilon_bits))]
+    pub fn inverse(self) -> Option<Mat4d>
         ensures { result ≡ into_box self }
     {
-        let Inverted::Matrix(matrix) = self.matrix.inverse_above(PRECISION_LIMIT) else {
-            return Inverse {
-                matrix: Mat4d::IDENTITY,
-                exists: false,
-            };
-        };
-        Inverse {
-            matrix,
-            exists: true,
-        }
+        self.matrix.inverse_above(PRECISION_LIMIT)
     }
 
     // Whether it has none.
+    #[tactic(auto, using(crate::proofs::Literals::box_epsilon_bits))]
     pub fn is_degenerate(self) -> bool
         ensures { result ≡ is_degenerate self }
     {
         !self.matrix.has_inverse_above(PRECISION_LIMIT)
     }
 
+    #[tactic(auto, using(matrix::proofs::Literals::zero_bits, number::proofs::Nan::nan_is), unfolding(crate::specs::BBox::volume, number::specs::Arithmetic::abs_of))]
     pub fn volume(self) -> f64
         ensures { result ≡ volume self }
     {
@@ -102,7 +65,7 @@ impl BBox3d {
         }
         let size = self.range.size();
         let volume = self.matrix.determinant3() * size.x * size.y * size.z;
-        if volume != volume {
+        if volume.is_nan() {
             return volume;
         }
         order::abs(volume)
@@ -112,11 +75,9 @@ impl BBox3d {
     pub fn transform(self, m: Mat4d) -> BBox3d
         ensures { result ≡ transformed_box self m }
     {
-        let range = self.range;
         BBox3d {
-            range,
             matrix: self.matrix.product(m),
-            flag: self.flag,
+            ..self
         }
     }
 
@@ -133,20 +94,19 @@ impl BBox3d {
     }
 
     // In its own space with another box, which the inverse of its matrix brings there.
+    #[tactic(auto, unfolding(crate::specs::BBox::extended))]
     fn extended_by(self, other: BBox3d, inverse: Mat4d) -> BBox3d
         ensures { result ≡ extended self other inverse }
     {
-        let matrix = self.matrix;
-        let range = self
-            .range
-            .union_by_product(other.range, other.matrix, inverse);
         BBox3d {
-            range,
-            matrix,
-            flag: self.flag,
+            range: self
+                .range
+                .union_by_product(other.range, other.matrix, inverse),
+            ..self
         }
     }
 
+    #[tactic(auto, unfolding(crate::specs::BBox::smaller_box))]
     fn smaller(self, other: BBox3d) -> BBox3d
         ensures { result ≡ smaller_box self other }
     {
@@ -157,6 +117,7 @@ impl BBox3d {
     }
 
     // Of two boxes without an inverse: their aligned ranges united, in the world.
+    #[tactic(auto, using(matrix::proofs::Literals::zero_bits, matrix::proofs::Literals::one_bits))]
     fn aligned_with(self, other: BBox3d) -> BBox3d
         ensures { result ≡ aligned self other }
     {
@@ -170,24 +131,26 @@ impl BBox3d {
         }
     }
 
+    #[tactic(auto, unfolding(crate::specs::BBox::merged))]
     fn merged(self, other: BBox3d) -> BBox3d
         ensures { result ≡ merged self other (into_box self) (into_box other) }
     {
         let into_self = self.inverse();
         let into_other = other.inverse();
-        if into_self.exists {
-            let first = self.extended_by(other, into_self.matrix);
-            if into_other.exists {
-                return first.smaller(other.extended_by(self, into_other.matrix));
+        if let Some(into_self) = into_self {
+            let first = self.extended_by(other, into_self);
+            if let Some(into_other) = into_other {
+                return first.smaller(other.extended_by(self, into_other));
             }
             return first;
         }
-        if into_other.exists {
-            return other.extended_by(self, into_other.matrix);
+        if let Some(into_other) = into_other {
+            return other.extended_by(self, into_other);
         }
         self.aligned_with(other)
     }
 
+    #[tactic(auto, unfolding(crate::specs::BBox::held))]
     fn held(self, other: BBox3d) -> BBox3d
         ensures { result ≡ held self other }
     {
@@ -201,20 +164,18 @@ impl BBox3d {
     }
 
     // One box with both in it.
+    #[tactic(auto, unfolding(crate::specs::BBox::combined))]
     pub fn combine(self, other: BBox3d) -> BBox3d
         ensures { result ≡ combined self other }
     {
-        let held = self.held(other);
-        let range = held.range;
-        let matrix = held.matrix;
         BBox3d {
-            range,
-            matrix,
-            flag: either(self.flag, other.flag),
+            flag: self.flag | other.flag,
+            ..self.held(other)
         }
     }
 
-    // The numbers of a record.
+    // The numbers of a record, a slice whose length its contract asks for, as those of the verdicts do: what is lent has no length in its type. The operations on boxes read by it: behind the test of `from_record` the reading is called, and a volume takes five times as long.
+    #[tactic(auto, using(matrix::proofs::Literals::one_bits))]
     pub(crate) fn load(s: &[f64]) -> BBox3d
         requires { length s.now ≡ 23 }
         ensures { result ≡ box_of s.now }
@@ -234,7 +195,9 @@ impl BBox3d {
         }
     }
 
-    // The numbers of a record, for other crates: its length is tested once, and past the end of a shorter slice there are NaNs.
+    // The numbers of a record, for other crates: its length is tested once. A slice of another length is read number by number, with NaNs past its end, since the definition
+    // says of every slice what it holds.
+    #[tactic(auto, using(matrix::proofs::Literals::one_bits))]
     pub fn from_record(s: &[f64]) -> BBox3d
         ensures { result ≡ box_of s.now }
     {
@@ -257,37 +220,10 @@ impl BBox3d {
     pub fn store(self, out: &mut [f64])
         ensures { out.new ≡ stored (numbers self) out.old }
     {
-        let min = self.range.min;
-        let max = self.range.max;
-        let r0 = self.matrix.r0;
-        let r1 = self.matrix.r1;
-        let r2 = self.matrix.r2;
-        let r3 = self.matrix.r3;
-        let all = [
-            min.x,
-            min.y,
-            min.z,
-            max.x,
-            max.y,
-            max.z,
-            r0.x,
-            r0.y,
-            r0.z,
-            r0.w,
-            r1.x,
-            r1.y,
-            r1.z,
-            r1.w,
-            r2.x,
-            r2.y,
-            r2.z,
-            r2.w,
-            r3.x,
-            r3.y,
-            r3.z,
-            r3.w,
-            flag_number(self.flag),
-        ];
-        slice::store(&all, out);
+        if out.len() == BOX_LENGTH {
+            self.range.store(&mut out[..RANGE_LENGTH]);
+            self.matrix.store(&mut out[RANGE_LENGTH..FLAG_PLACE]);
+            out[FLAG_PLACE] = f64::from(self.flag);
+        }
     }
 }

@@ -8,8 +8,8 @@ use matrix::matrix::Mat4d;
 use matrix::range::Range3d;
 use matrix::vec::Vec4d;
 
-// The sides of clip space that some corner is within.
-#[derive(Clone, Copy)]
+// The sides of clip space that some corner is within: each by its name, beside the comparison that tells it.
+#[derive(Clone, Copy, Default)]
 struct Sides {
     right: bool,
     left: bool,
@@ -20,6 +20,7 @@ struct Sides {
 }
 
 // A corner of a range, under a matrix.
+#[tactic(auto, using(matrix::proofs::Literals::one_bits))]
 fn corner_under(range: Range3d, m: Mat4d, i: usize) -> Vec4d
     ensures { result ≡ corner_under range m i }
 {
@@ -58,18 +59,9 @@ pub fn intersects_view_volume(b: BBox3d, m: Mat4d) -> bool
     ensures { result ≡ box_in_view_volume b m }
 {
     let to_clip = b.matrix.product(m);
-    let mut sides = Sides {
-        right: false,
-        left: false,
-        top: false,
-        bottom: false,
-        far: false,
-        near: false,
-    };
-    let mut i: usize = 0;
-    while i < 8 {
+    let mut sides = Sides::default();
+    for i in 0..8 {
         sides = sides.passed_by(corner_under(b.range, to_clip, i));
-        i += 1;
     }
     sides.all()
 }

@@ -1,43 +1,20 @@
 // One pass over planes side by side: whether they hold a point, which of them do, and what they leave of a segment.
-ghost use Rattle.std.specs.Prelude.{◌≡◌, ◌≤◌};
-ghost use Rattle.number.specs.Limits.{most_planes};
+ghost use Rattle.std.specs.Prelude.{◌≡◌};
 ghost use Rattle.matrix.specs.Constants.{positive_zero, one};
 ghost use Rattle.verdict.specs.Rows.{planes_in_rows};
 ghost use Rattle.verdict.specs.Steps.Passes.{sides_of};
 ghost use Rattle.verdict.specs.Frustum.{point_in_view, crossing, start_cut, end_cut, span_left};
 
 use crate::plane::Plane;
-use crate::rows::{Rows, plane_in};
+use crate::rows::Rows;
 use matrix::vec::Vec3d;
 use number::order;
 
-// Whether a point is on the positive side of the first planes.
-pub(crate) fn holds_point(rows: &Rows, count: u32, p: Vec3d) -> bool
-    requires { count ≤ most_planes }
-    ensures { result ≡ point_in_view (planes_in_rows rows.now count) p }
-{
-    let mut i: u32 = 0;
-    while i < count {
-        if !plane_in(rows, i).on_positive_side(p) {
-            return false;
-        }
-        i += 1;
-    }
-    true
-}
-
-// Of the first planes those that have a point on their positive side, one bit for each, that of the first plane lowest.
-pub(crate) fn sides_within(rows: &Rows, count: u32, p: Vec3d) -> u64
-    requires { count ≤ most_planes }
-    ensures { result ≡ sides_of (planes_in_rows rows.now count) p }
-{
-    let mut sides: u64 = 0;
-    let mut i: u32 = count;
-    while 0 < i {
-        i -= 1;
-        sides = sides * 2 + plane_in(rows, i).on_positive_side(p) as u64;
-    }
-    sides
+// An end of a segment, with the planes that have it on their positive side: one bit for each, that of the first plane lowest.
+#[derive(Clone, Copy)]
+pub(crate) struct End {
+    pub point: Vec3d,
+    pub sides: u64,
 }
 
 // Where the segment from a to b meets a plane, as a number that is 0 at a and 1 at b.
@@ -78,33 +55,54 @@ impl Span {
     }
 }
 
-// Whether the first planes leave some of a segment, by where it crosses those that have one end alone on their positive side.
-pub(crate) fn span_left(
-    rows: &Rows,
-    count: u32,
-    a: Vec3d,
-    a_sides: u64,
-    b: Vec3d,
-    b_sides: u64,
-) -> bool
-    requires { (count ≤ most_planes) × (a_sides ≡ sides_of (planes_in_rows rows.now count) a) × (b_sides ≡ sides_of (planes_in_rows rows.now count) b) }
-    ensures { result ≡ span_left (planes_in_rows rows.now count) a b positive_zero one }
-{
-    let mut span = Span {
-        start: 0.0,
-        end: 1.0,
-    };
-    let mut a_left = a_sides;
-    let mut b_left = b_sides;
-    let mut i: u32 = 0;
-    while i < count {
-        span = span.cut(plane_in(rows, i), a, a_left % 2 == 1, b, b_left % 2 == 1);
-        if span.start > span.end {
-            return false;
-        }
-        a_left = a_left / 2;
-        b_left = b_left / 2;
-        i += 1;
+impl Rows {
+    // Whether a point is on the positive side of every plane.
+    #[inline(always)]
+    pub(crate) fn holds_point(&self, p: Vec3d) -> bool
+        ensures { result ≡ point_in_view (planes_in_rows self.now.numbers self.now.count) p }
+    {
+        (0..self.count).all(|i| self.plane(i).on_positive_side(p))
     }
-    true
+
+    // Of the planes those that have a point on their positive side.
+    #[inline(always)]
+    pub(crate) fn sides(&self, p: Vec3d) -> u64
+        ensures { result ≡ sides_of (planes_in_rows self.now.numbers self.now.count) p }
+    {
+        let mut sides: u64 = 0;
+        for i in (0..self.count).rev() {
+            sides = sides * 2 + u64::from(self.plane(i).on_positive_side(p));
+        }
+        sides
+    }
+
+    // Whether the planes leave some of a segment, by where it crosses those that have one end alone on their positive side.
+    #[inline(always)]
+    pub(crate) fn span_left(&self, a: End, b: End) -> bool
+        requires a_sides { a.sides ≡ sides_of (planes_in_rows self.now.numbers self.now.count) a.point }
+        requires b_sides { b.sides ≡ sides_of (planes_in_rows self.now.numbers self.now.count) b.point }
+        ensures { result ≡ span_left (planes_in_rows self.now.numbers self.now.count) a.point b.point positive_zero one }
+    {
+        let mut span = Span {
+            start: 0.0,
+            end: 1.0,
+        };
+        let mut a_left = a.sides;
+        let mut b_left = b.sides;
+        for i in 0..self.count {
+            span = span.cut(
+                self.plane(i),
+                a.point,
+                a_left % 2 == 1,
+                b.point,
+                b_left % 2 == 1,
+            );
+            if span.start > span.end {
+                return false;
+            }
+            a_left /= 2;
+            b_left /= 2;
+        }
+        true
+    }
 }

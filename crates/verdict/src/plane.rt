@@ -1,12 +1,14 @@
 // Planes, and on which side of one a point or a range is.
-ghost use Rattle.std.specs.Prelude.{◌≡◌};
+ghost use Rattle.std.specs.Prelude.{◌≡◌, ℕ, List, length, Float, refl};
 ghost use Rattle.verdict.specs.Plane.{numbers, plane_of, facing, from_points, offset, from_equation, equation, distance_to, on_positive_side, end_toward, reaches_positive_side, under_inverse_transpose, transformed};
 ghost use Rattle.number.specs.Slice.{stored};
+ghost use Rattle.number.specs.Limits.{plane_length};
 
-use matrix::inverse::Inverted;
 use matrix::matrix::Mat4d;
 use matrix::range::Range3d;
+use matrix::record::Record;
 use matrix::vec::{Vec3d, Vec4d};
+use number::limits::PLANE_LENGTH;
 use number::slice;
 use number::slice::at;
 
@@ -17,14 +19,8 @@ pub struct Plane {
     pub distance: f64,
 }
 
-// A plane moved by a matrix, or that the matrix is singular.
-#[derive(Clone, Copy)]
-pub enum Transformed {
-    To(Plane),
-    Singular,
-}
-
 // The distance of an equation whose last number is w, for a normal of a length.
+#[tactic(auto, using(matrix::proofs::Literals::zero_bits), unfolding(crate::specs::Plane::offset))]
 fn offset(w: f64, length: f64) -> f64
     ensures { result ≡ offset w length }
 {
@@ -35,6 +31,7 @@ fn offset(w: f64, length: f64) -> f64
 }
 
 // Along an axis the greatest of a range, or the least where the normal's number there is below 0 or a NaN.
+#[tactic(auto, using(matrix::proofs::Literals::zero_bits), unfolding(crate::specs::Plane::end_toward))]
 pub(crate) fn end_toward(n: f64, min: f64, max: f64) -> f64
     ensures { result ≡ end_toward n min max }
 {
@@ -100,6 +97,7 @@ impl Plane {
         point.dot(self.normal) - self.distance
     }
 
+    #[tactic(auto, using(matrix::proofs::Literals::zero_bits))]
     pub fn on_positive_side(self, point: Vec3d) -> bool
         ensures { result ≡ on_positive_side self point }
     {
@@ -107,6 +105,7 @@ impl Plane {
     }
 
     // Whether a range that is not empty comes at least as far along the normal as the plane.
+    #[tactic(auto, using(crate::proofs::ReachSum::reach_by_dot), unfolding(crate::specs::Plane::reaches_positive_side))]
     pub fn reaches_positive_side(self, range: Range3d) -> bool
         ensures { result ≡ reaches_positive_side self range }
     {
@@ -128,13 +127,12 @@ impl Plane {
         Plane::from_equation(inverse_transpose.transform_homogeneous(self.equation()))
     }
 
-    pub fn transformed(self, matrix: Mat4d) -> Transformed
+    #[tactic(auto, unfolding(crate::specs::Plane::transformed))]
+    pub fn transformed(self, matrix: Mat4d) -> Option<Plane>
         ensures { result ≡ transformed matrix self }
     {
-        let Inverted::Matrix(inverse) = matrix.inverse() else {
-            return Transformed::Singular;
-        };
-        Transformed::To(self.under_inverse_transpose(inverse.transpose()))
+        let inverse = matrix.inverse()?;
+        Some(self.under_inverse_transpose(inverse.transpose()))
     }
 
     // The first four numbers of a slice.
@@ -147,13 +145,36 @@ impl Plane {
         }
     }
 
+    pub fn numbers(self) -> [f64; PLANE_LENGTH]
+        ensures { result ≡ numbers self }
+    {
+        [self.normal.x, self.normal.y, self.normal.z, self.distance]
+    }
+
     // Its numbers, into a slice of four.
     pub fn store(self, out: &mut [f64])
         ensures { out.new ≡ stored (numbers self) out.old }
     {
-        slice::store(
-            &[self.normal.x, self.normal.y, self.normal.z, self.distance],
-            out,
-        );
+        slice::store(&self.numbers(), out);
+    }
+}
+
+impl Record for Plane {
+    ghost LENGTH = { plane_length };
+
+    ghost read = { plane_of };
+
+    ghost numbers = { numbers };
+
+    const LENGTH: usize = PLANE_LENGTH;
+
+    ghost count = { λ x. refl };
+
+    fn load(s: &[f64]) -> Plane {
+        Plane::load(s)
+    }
+
+    fn store(self, out: &mut [f64]) {
+        Plane::store(self, out);
     }
 }

@@ -1,104 +1,75 @@
 // The operations on planes, over lent slices.
 ghost use Rattle.std.specs.Prelude.{◌≡◌};
-ghost use Rattle.number.specs.Answer.{reply, scalar_of, verdict_of};
+ghost use Rattle.number.specs.Answer.{reply, outcome_of};
 ghost use Rattle.verdict.specs.PlaneCalls.{new_plane_call, from_points_call, from_equation_call, distance_call, side_call, transformed_plane_call};
 
-use crate::plane::{Plane, Transformed};
-use matrix::matrix::Mat4d;
-use matrix::vec::{Vec3d, Vec4d};
-use number::answer::{Refusal, Scalar, Verdict, Written};
-use number::limits::{HOMOGENEOUS_LENGTH, MATRIX_LENGTH, PLANE_LENGTH, POINT_LENGTH};
+use crate::plane::Plane;
+use matrix::record::{given, of_one};
+use matrix::vec::Vec3d;
+use number::answer::Refusal;
+use number::limits::{PLANE_LENGTH, POINT_LENGTH};
 
 // A plane from a normal and a distance.
-pub fn new(normal: &[f64], distance: f64, out: &mut [f64]) -> Written
+pub fn new(normal: &[f64], distance: f64, out: &mut [f64]) -> Result<(), Refusal>
     ensures { reply result out.new ≡ new_plane_call normal.now distance out.old }
 {
-    if normal.len() != POINT_LENGTH {
-        return Written::Refused(Refusal::InputLength);
-    }
-    if out.len() != PLANE_LENGTH {
-        return Written::Refused(Refusal::OutputLength);
-    }
-    Plane::new(Vec3d::load(normal), distance).store(out);
-    Written::Done
+    of_one(normal, out, |unscaled| Plane::new(unscaled, distance))
 }
 
 // A plane from three points on it.
-pub fn from_points(p0: &[f64], p1: &[f64], p2: &[f64], out: &mut [f64]) -> Written
+#[tactic(auto, unfolding(crate::specs::PlaneCalls::from_points_call, number::specs::Answer::leaving))]
+pub fn from_points(p0: &[f64], p1: &[f64], p2: &[f64], out: &mut [f64]) -> Result<(), Refusal>
     ensures { reply result out.new ≡ from_points_call p0.now p1.now p2.now out.old }
 {
     if p0.len() != POINT_LENGTH {
-        return Written::Refused(Refusal::InputLength);
+        return Err(Refusal::InputLength);
     }
     if p1.len() != POINT_LENGTH {
-        return Written::Refused(Refusal::InputLength);
+        return Err(Refusal::InputLength);
     }
     if p2.len() != POINT_LENGTH {
-        return Written::Refused(Refusal::InputLength);
+        return Err(Refusal::InputLength);
     }
     if out.len() != PLANE_LENGTH {
-        return Written::Refused(Refusal::OutputLength);
+        return Err(Refusal::OutputLength);
     }
     Plane::from_points(Vec3d::load(p0), Vec3d::load(p1), Vec3d::load(p2)).store(out);
-    Written::Done
+    Ok(())
 }
 
 // A plane from its equation.
-pub fn from_equation(equation: &[f64], out: &mut [f64]) -> Written
+pub fn from_equation(equation: &[f64], out: &mut [f64]) -> Result<(), Refusal>
     ensures { reply result out.new ≡ from_equation_call equation.now out.old }
 {
-    if equation.len() != HOMOGENEOUS_LENGTH {
-        return Written::Refused(Refusal::InputLength);
-    }
-    if out.len() != PLANE_LENGTH {
-        return Written::Refused(Refusal::OutputLength);
-    }
-    Plane::from_equation(Vec4d::load(equation)).store(out);
-    Written::Done
+    of_one(equation, out, Plane::from_equation)
 }
 
 // The signed distance of a point from a plane.
-pub fn distance(plane: &[f64], p: &[f64]) -> Scalar
-    ensures { scalar_of result ≡ distance_call plane.now p.now }
+pub fn distance(plane: &[f64], p: &[f64]) -> Result<f64, Refusal>
+    ensures { outcome_of result ≡ distance_call plane.now p.now }
 {
-    if plane.len() != PLANE_LENGTH {
-        return Scalar::Refused(Refusal::InputLength);
-    }
-    if p.len() != POINT_LENGTH {
-        return Scalar::Refused(Refusal::InputLength);
-    }
-    Scalar::Value(Plane::load(plane).distance(Vec3d::load(p)))
+    Ok(given::<Plane>(plane)?.distance(given(p)?))
 }
 
 // Whether a point is on the positive side of a plane, touching included.
-pub fn on_positive_side(plane: &[f64], p: &[f64]) -> Verdict
-    ensures { verdict_of result ≡ side_call plane.now p.now }
+pub fn on_positive_side(plane: &[f64], p: &[f64]) -> Result<bool, Refusal>
+    ensures { outcome_of result ≡ side_call plane.now p.now }
 {
-    if plane.len() != PLANE_LENGTH {
-        return Verdict::Refused(Refusal::InputLength);
-    }
-    if p.len() != POINT_LENGTH {
-        return Verdict::Refused(Refusal::InputLength);
-    }
-    Verdict::of(Plane::load(plane).on_positive_side(Vec3d::load(p)))
+    Ok(given::<Plane>(plane)?.on_positive_side(given(p)?))
 }
 
 // A plane moved by a matrix. A singular matrix is refused.
-pub fn transformed(plane: &[f64], m: &[f64], out: &mut [f64]) -> Written
+pub fn transformed(plane: &[f64], m: &[f64], out: &mut [f64]) -> Result<(), Refusal>
     ensures { reply result out.new ≡ transformed_plane_call plane.now m.now out.old }
 {
-    if plane.len() != PLANE_LENGTH {
-        return Written::Refused(Refusal::InputLength);
-    }
-    if m.len() != MATRIX_LENGTH {
-        return Written::Refused(Refusal::InputLength);
-    }
+    let original: Plane = given(plane)?;
+    let matrix = given(m)?;
     if out.len() != PLANE_LENGTH {
-        return Written::Refused(Refusal::OutputLength);
+        return Err(Refusal::OutputLength);
     }
-    let Transformed::To(moved) = Plane::load(plane).transformed(Mat4d::load(m)) else {
-        return Written::Refused(Refusal::Singular);
-    };
-    moved.store(out);
-    Written::Done
+    original
+        .transformed(matrix)
+        .ok_or(Refusal::Singular)?
+        .store(out);
+    Ok(())
 }

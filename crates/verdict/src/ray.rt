@@ -1,17 +1,18 @@
 // Rays, and where they meet planes and triangles.
-ghost use Rattle.std.specs.Prelude.{◌≡◌, ◌&&◌};
-ghost use Rattle.std.specs.Float.Ieee.{lt};
-ghost use Rattle.verdict.specs.Ray.{numbers, ray_of, point_at, transformed, plane_hit, front_flag, faced, projected, settled, beta_of, alpha_of, gamma_of, weighed, triangle_of, meeting_of, hit_in, hit_of, triangle_hit};
+ghost use Rattle.std.specs.Prelude.{◌≡◌, ℕ, List, length, Float, refl};
+ghost use Rattle.verdict.specs.Ray.{numbers, ray_of, point_at, transformed, plane_hit, plane_numbers, triangle_numbers, faced, projected, settled, beta_of, alpha_of, gamma_of, triangle_of, meeting_of, hit_of, triangle_hit};
 ghost use Rattle.number.specs.Slice.{stored};
+ghost use Rattle.number.specs.Limits.{ray_length};
 
 use crate::plane::Plane;
 use matrix::matrix::Mat4d;
+use matrix::record::Record;
 use matrix::vec::{MIN_VECTOR_LENGTH, Vec3d};
 use number::answer::Refusal;
 use number::format::{narrow, widen};
+use number::limits::{HIT_LENGTH, PLANE_HIT_LENGTH, RAY_LENGTH};
 use number::order::abs;
 use number::slice;
-use number::slice::at;
 
 // Distances along it count directions, which may be of any length.
 #[derive(Clone, Copy)]
@@ -20,37 +21,69 @@ pub struct Ray {
     pub direction: Vec3d,
 }
 
-// A ray's hit on a plane: the distance, and whether on the front, which is the positive side. Or a miss.
+// A ray's hit on a plane: the distance, and whether on the front, which is the positive side.
 #[derive(Clone, Copy)]
-pub enum PlaneHit {
-    At { distance: f64, front: bool },
-    Miss,
+pub struct PlaneHit {
+    pub distance: f64,
+    pub front: bool,
 }
 
 // A ray's hit on a triangle: the distance, the weights of the first, second and third point, and whether on the front, from which
-// the points go round against the clock. Or why there is none.
+// the points go round against the clock.
 #[derive(Clone, Copy)]
-pub enum TriangleHit {
-    Hit {
-        distance: f64,
-        gamma: f64,
-        alpha: f64,
-        beta: f64,
-        front: bool,
-    },
-    Refused(Refusal),
-}
-
-// The numbers of a ray that meets a triangle's plane, and whether they are those of a hit; zeros where it misses the plane. What would be a branch is a number here,
-// so that the numbers of several rays are on their way at a time.
-#[derive(Clone, Copy)]
-pub struct Meeting {
+pub struct TriangleHit {
     pub distance: f64,
     pub gamma: f64,
     pub alpha: f64,
     pub beta: f64,
     pub front: bool,
+}
+
+// The numbers of a ray that meets a triangle's plane, and whether they are those of a hit; zeros where it misses the plane. It is no Option: what would be a branch
+// is a number here, so that the numbers of several rays are on their way at a time.
+#[derive(Clone, Copy)]
+pub struct Meeting {
+    pub numbers: TriangleHit,
     pub hit: bool,
+}
+
+impl Meeting {
+    const NONE: Meeting = Meeting {
+        numbers: TriangleHit {
+            distance: 0.0,
+            gamma: 0.0,
+            alpha: 0.0,
+            beta: 0.0,
+            front: false,
+        },
+        hit: false,
+    };
+}
+
+impl PlaneHit {
+    // The distance, and 1 for the front or 0 for the back.
+    #[tactic(auto, using(crate::proofs::Flags::front_number))]
+    pub(crate) fn record(self) -> [f64; PLANE_HIT_LENGTH]
+        ensures { result ≡ plane_numbers self }
+    {
+        [self.distance, f64::from(self.front)]
+    }
+}
+
+impl TriangleHit {
+    // The distance, the weights of the three points, and 1 for the front or 0 for the back.
+    #[tactic(auto, using(crate::proofs::Flags::front_number))]
+    pub fn record(self) -> [f64; HIT_LENGTH]
+        ensures { result ≡ triangle_numbers self }
+    {
+        [
+            self.distance,
+            self.gamma,
+            self.alpha,
+            self.beta,
+            f64::from(self.front),
+        ]
+    }
 }
 
 // The axis along which a normal is longest.
@@ -79,32 +112,14 @@ pub struct Triangle {
     third: Flat,
 }
 
-// 1 for the front and 0 for the back.
-pub fn front_flag(front: bool) -> f64
-    ensures { result ≡ front_flag front }
-{
-    if front {
-        return 1.0;
-    }
-    0.0
-}
-
-fn above_both(x: f64, y: f64, z: f64) -> bool
-    ensures { result ≡ (lt y x && lt z x) }
-{
-    if x > y {
-        return x > z;
-    }
-    false
-}
-
+#[tactic(auto, unfolding(crate::specs::Ray::faced))]
 fn faced(normal: Vec3d) -> Axis
     ensures { result ≡ faced normal }
 {
     let x = abs(normal.x);
     let y = abs(normal.y);
     let z = abs(normal.z);
-    if above_both(x, y, z) {
+    if x > y && x > z {
         return Axis::X;
     }
     if y > z {
@@ -124,68 +139,22 @@ fn projected(axis: Axis, v: Vec3d) -> Flat
 }
 
 // 0 for a weight strictly between −1e-10 and 0, and every other as it is.
+#[tactic(auto, using(matrix::proofs::Literals::zero_bits, matrix::proofs::Literals::min_length_bits), unfolding(crate::specs::Ray::settled))]
 fn settled(weight: f64) -> f64
     ensures { result ≡ settled weight }
 {
-    if weight < 0.0 {
-        if weight > -MIN_VECTOR_LENGTH {
-            return 0.0;
-        }
-        return weight;
+    if weight < 0.0 && weight > -MIN_VECTOR_LENGTH {
+        return 0.0;
     }
     weight
 }
 
 // The weight of the first point, rounded through f32.
+#[tactic(auto, using(matrix::proofs::Literals::one_bits), unfolding(crate::specs::Ray::gamma_of))]
 fn gamma(alpha: f64, beta: f64) -> f64
     ensures { result ≡ gamma_of alpha beta }
 {
     settled(widen(narrow(1.0 - (alpha + beta))))
-}
-
-// This is the point met, d1 the second point of a triangle and d2 the third, all from the first and projected.
-impl Flat {
-    fn beta(self, d1: Flat, d2: Flat) -> f64
-        ensures { result ≡ beta_of self d1 d2 }
-    {
-        settled((self.v * d1.u - self.u * d1.v) / (d2.v * d1.u - d2.u * d1.v))
-    }
-
-    fn alpha(self, d1: Flat, d2: Flat, beta: f64) -> f64
-        ensures { result ≡ alpha_of self d1 d2 beta }
-    {
-        if abs(d1.v) > MIN_VECTOR_LENGTH {
-            return settled((self.v - beta * d2.v) / d1.v);
-        }
-        settled((self.u - beta * d2.u) / d1.u)
-    }
-
-    fn weighed(self, d1: Flat, d2: Flat, distance: f64, front: bool) -> TriangleHit
-        ensures { result ≡ hit_in (weighed distance front self d1 d2) }
-    {
-        let beta = self.beta(d1, d2);
-        if !(beta >= 0.0) {
-            return TriangleHit::Refused(Refusal::Miss);
-        }
-        if !(beta <= 1.0) {
-            return TriangleHit::Refused(Refusal::Miss);
-        }
-        let alpha = self.alpha(d1, d2, beta);
-        let gamma = gamma(alpha, beta);
-        if alpha < 0.0 {
-            return TriangleHit::Refused(Refusal::Miss);
-        }
-        if gamma < 0.0 {
-            return TriangleHit::Refused(Refusal::Miss);
-        }
-        TriangleHit::Hit {
-            distance,
-            gamma,
-            alpha,
-            beta,
-            front,
-        }
-    }
 }
 
 impl Triangle {
@@ -203,43 +172,81 @@ impl Triangle {
         }
     }
 
-    // Where a ray meets it.
-    fn hit_by(self, ray: Ray) -> TriangleHit
-        ensures { result ≡ hit_of ray self }
+    // The weight of the third point, of a point met that is seen from the first and projected.
+    #[tactic(auto, unfolding(crate::specs::Ray::beta_of))]
+    fn beta(self, met: Flat) -> f64
+        ensures { result ≡ beta_of met self.second self.third }
     {
-        let PlaneHit::At { distance, front } = ray.intersect_plane(self.plane) else {
-            return TriangleHit::Refused(Refusal::Miss);
-        };
-        let axis = self.axis;
-        let met = projected(axis, ray.point(distance).sub(self.first));
-        met.weighed(self.second, self.third, distance, front)
+        let second = self.second;
+        let third = self.third;
+        settled((met.v * second.u - met.u * second.v) / (third.v * second.u - third.u * second.v))
     }
 
-    // The same, with all weights before any is looked at.
-    pub fn met_by(self, ray: Ray) -> Meeting
-        ensures { result ≡ meeting_of ray self }
+    // The weight of the second point, by that of the third.
+    #[tactic(auto, using(matrix::proofs::Literals::min_length_bits), unfolding(crate::specs::Ray::alpha_of))]
+    fn alpha(self, met: Flat, beta: f64) -> f64
+        ensures { result ≡ alpha_of met self.second self.third beta }
     {
-        let PlaneHit::At { distance, front } = ray.intersect_plane(self.plane) else {
-            return Meeting {
-                distance: 0.0,
-                gamma: 0.0,
-                alpha: 0.0,
-                beta: 0.0,
-                front: false,
-                hit: false,
-            };
+        let second = self.second;
+        let third = self.third;
+        if abs(second.v) > MIN_VECTOR_LENGTH {
+            return settled((met.v - beta * third.v) / second.v);
+        }
+        settled((met.u - beta * third.u) / second.u)
+    }
+
+    // Where a ray meets it: each weight is looked at as soon as it is there.
+    fn hit_by(self, ray: Ray) -> Result<TriangleHit, Refusal>
+        ensures { result ≡ hit_of ray self }
+    {
+        let Some(PlaneHit { distance, front }) = ray.intersect_plane(self.plane) else {
+            return Err(Refusal::Miss);
         };
-        let axis = self.axis;
-        let met = projected(axis, ray.point(distance).sub(self.first));
-        let beta = met.beta(self.second, self.third);
-        let alpha = met.alpha(self.second, self.third, beta);
+        let met = projected(self.axis, ray.point(distance).sub(self.first));
+        let beta = self.beta(met);
+        if !(beta >= 0.0) {
+            return Err(Refusal::Miss);
+        }
+        if !(beta <= 1.0) {
+            return Err(Refusal::Miss);
+        }
+        let alpha = self.alpha(met, beta);
         let gamma = gamma(alpha, beta);
-        Meeting {
+        if alpha < 0.0 {
+            return Err(Refusal::Miss);
+        }
+        if gamma < 0.0 {
+            return Err(Refusal::Miss);
+        }
+        Ok(TriangleHit {
             distance,
             gamma,
             alpha,
             beta,
             front,
+        })
+    }
+
+    // The same with all weights before any is looked at.
+    #[tactic(auto, using(matrix::proofs::Literals::zero_bits, matrix::proofs::Literals::one_bits), unfolding(crate::specs::Ray::meeting_of, crate::specs::Ray::weighed))]
+    pub fn met_by(self, ray: Ray) -> Meeting
+        ensures { result ≡ meeting_of ray self }
+    {
+        let Some(PlaneHit { distance, front }) = ray.intersect_plane(self.plane) else {
+            return Meeting::NONE;
+        };
+        let met = projected(self.axis, ray.point(distance).sub(self.first));
+        let beta = self.beta(met);
+        let alpha = self.alpha(met, beta);
+        let gamma = gamma(alpha, beta);
+        Meeting {
+            numbers: TriangleHit {
+                distance,
+                gamma,
+                alpha,
+                beta,
+                front,
+            },
             hit: (beta >= 0.0) & (beta <= 1.0) & !(alpha < 0.0) & !(gamma < 0.0),
         }
     }
@@ -262,25 +269,24 @@ impl Ray {
         }
     }
 
-    pub fn intersect_plane(self, plane: Plane) -> PlaneHit
+    #[tactic(auto, using(matrix::proofs::Literals::zero_bits, matrix::proofs::Literals::min_length_bits), unfolding(crate::specs::Ray::plane_hit))]
+    pub fn intersect_plane(self, plane: Plane) -> Option<PlaneHit>
         ensures { result ≡ plane_hit self plane }
     {
         let facing = self.direction.dot(plane.normal);
         if abs(facing) < MIN_VECTOR_LENGTH {
-            return PlaneHit::Miss;
+            return None;
         }
         let on_plane = plane.normal.scale(plane.distance);
         let distance = on_plane.sub(self.start).dot(plane.normal) / facing;
-        if distance >= 0.0 {
-            return PlaneHit::At {
-                distance,
-                front: facing < 0.0,
-            };
-        }
-        PlaneHit::Miss
+        (distance >= 0.0).then_some(PlaneHit {
+            distance,
+            front: facing < 0.0,
+        })
     }
 
-    pub fn intersect_triangle(self, p0: Vec3d, p1: Vec3d, p2: Vec3d) -> TriangleHit
+    #[tactic(auto, unfolding(crate::specs::Ray::triangle_hit))]
+    pub fn intersect_triangle(self, p0: Vec3d, p1: Vec3d, p2: Vec3d) -> Result<TriangleHit, Refusal>
         ensures { result ≡ triangle_hit self p0 p1 p2 }
     {
         Triangle::new(p0, p1, p2).hit_by(self)
@@ -292,26 +298,49 @@ impl Ray {
     {
         Ray {
             start: Vec3d::load(s),
-            direction: Vec3d {
-                x: at(s, 3),
-                y: at(s, 4),
-                z: at(s, 5),
-            },
+            direction: Vec3d::load_at(s, 3),
         }
+    }
+
+    pub fn numbers(self) -> [f64; RAY_LENGTH]
+        ensures { result ≡ numbers self }
+    {
+        let start = self.start;
+        let direction = self.direction;
+        [
+            start.x,
+            start.y,
+            start.z,
+            direction.x,
+            direction.y,
+            direction.z,
+        ]
     }
 
     // Its numbers, into a slice of six.
     pub fn store(self, out: &mut [f64])
         ensures { out.new ≡ stored (numbers self) out.old }
     {
-        let all = [
-            self.start.x,
-            self.start.y,
-            self.start.z,
-            self.direction.x,
-            self.direction.y,
-            self.direction.z,
-        ];
-        slice::store(&all, out);
+        slice::store(&self.numbers(), out);
+    }
+}
+
+impl Record for Ray {
+    ghost LENGTH = { ray_length };
+
+    ghost read = { ray_of };
+
+    ghost numbers = { numbers };
+
+    const LENGTH: usize = RAY_LENGTH;
+
+    ghost count = { λ x. refl };
+
+    fn load(s: &[f64]) -> Ray {
+        Ray::load(s)
+    }
+
+    fn store(self, out: &mut [f64]) {
+        Ray::store(self, out);
     }
 }

@@ -4,65 +4,45 @@ ghost use Rattle.number.specs.Answer.{reply};
 ghost use Rattle.verdict.specs.RayCalls.{point_call, transformed_ray_call, plane_hit_call, triangle_hit_call};
 
 use crate::plane::Plane;
-use crate::ray::{PlaneHit, Ray, TriangleHit, front_flag};
-use matrix::matrix::Mat4d;
-use matrix::vec::Vec3d;
-use number::answer::{Refusal, Written};
-use number::limits::{
-    HIT_LENGTH, MATRIX_LENGTH, PLANE_HIT_LENGTH, PLANE_LENGTH, POINT_LENGTH, RAY_LENGTH,
-};
+use crate::ray::Ray;
+use matrix::record::{given, of_one, of_two};
+use number::answer::Refusal;
+use number::limits::{HIT_LENGTH, PLANE_HIT_LENGTH, PLANE_LENGTH, RAY_LENGTH};
 use number::slice;
 
 // The point at a distance along a ray.
-pub fn point(ray: &[f64], distance: f64, out: &mut [f64]) -> Written
+pub fn point(ray: &[f64], distance: f64, out: &mut [f64]) -> Result<(), Refusal>
     ensures { reply result out.new ≡ point_call ray.now distance out.old }
 {
-    if ray.len() != RAY_LENGTH {
-        return Written::Refused(Refusal::InputLength);
-    }
-    if out.len() != POINT_LENGTH {
-        return Written::Refused(Refusal::OutputLength);
-    }
-    Ray::load(ray).point(distance).store(out);
-    Written::Done
+    of_one(ray, out, |along: Ray| along.point(distance))
 }
 
 // A ray moved by a matrix.
-pub fn transformed(ray: &[f64], m: &[f64], out: &mut [f64]) -> Written
+pub fn transformed(ray: &[f64], m: &[f64], out: &mut [f64]) -> Result<(), Refusal>
     ensures { reply result out.new ≡ transformed_ray_call ray.now m.now out.old }
 {
-    if ray.len() != RAY_LENGTH {
-        return Written::Refused(Refusal::InputLength);
-    }
-    if m.len() != MATRIX_LENGTH {
-        return Written::Refused(Refusal::InputLength);
-    }
-    if out.len() != RAY_LENGTH {
-        return Written::Refused(Refusal::OutputLength);
-    }
-    Ray::load(ray).transformed(Mat4d::load(m)).store(out);
-    Written::Done
+    of_two(ray, m, out, Ray::transformed)
 }
 
-// A ray's hit on a plane: the distance, and 1 for its front or 0 for its back. A miss is refused.
-pub fn intersect_plane(ray: &[f64], plane: &[f64], out: &mut [f64]) -> Written
+// A ray's hit on a plane: the distance, and 1 for its front or 0 for its back. A miss is refused. It has its own tests: by `given` it took a tenth longer.
+#[tactic(auto, unfolding(crate::specs::RayCalls::plane_hit_call, number::specs::Answer::leaving))]
+pub fn intersect_plane(ray: &[f64], plane: &[f64], out: &mut [f64]) -> Result<(), Refusal>
     ensures { reply result out.new ≡ plane_hit_call ray.now plane.now out.old }
 {
     if ray.len() != RAY_LENGTH {
-        return Written::Refused(Refusal::InputLength);
+        return Err(Refusal::InputLength);
     }
     if plane.len() != PLANE_LENGTH {
-        return Written::Refused(Refusal::InputLength);
+        return Err(Refusal::InputLength);
     }
     if out.len() != PLANE_HIT_LENGTH {
-        return Written::Refused(Refusal::OutputLength);
+        return Err(Refusal::OutputLength);
     }
-    let PlaneHit::At { distance, front } = Ray::load(ray).intersect_plane(Plane::load(plane)) else {
-        return Written::Refused(Refusal::Miss);
-    };
-    let flag = front_flag(front);
-    slice::store(&[distance, flag], out);
-    Written::Done
+    let hit = Ray::load(ray)
+        .intersect_plane(Plane::load(plane))
+        .ok_or(Refusal::Miss)?;
+    slice::store(&hit.record(), out);
+    Ok(())
 }
 
 // A ray's hit on a triangle: the distance, the weights of its three points, and 1 for its front or 0 for its back. A miss is
@@ -73,36 +53,17 @@ pub fn intersect_triangle(
     p1: &[f64],
     p2: &[f64],
     out: &mut [f64],
-) -> Written
+) -> Result<(), Refusal>
     ensures { reply result out.new ≡ triangle_hit_call ray.now p0.now p1.now p2.now out.old }
 {
-    if ray.len() != RAY_LENGTH {
-        return Written::Refused(Refusal::InputLength);
-    }
-    if p0.len() != POINT_LENGTH {
-        return Written::Refused(Refusal::InputLength);
-    }
-    if p1.len() != POINT_LENGTH {
-        return Written::Refused(Refusal::InputLength);
-    }
-    if p2.len() != POINT_LENGTH {
-        return Written::Refused(Refusal::InputLength);
-    }
+    let cast: Ray = given(ray)?;
+    let first = given(p0)?;
+    let second = given(p1)?;
+    let third = given(p2)?;
     if out.len() != HIT_LENGTH {
-        return Written::Refused(Refusal::OutputLength);
+        return Err(Refusal::OutputLength);
     }
-    match Ray::load(ray).intersect_triangle(Vec3d::load(p0), Vec3d::load(p1), Vec3d::load(p2)) {
-        TriangleHit::Hit {
-            distance,
-            gamma,
-            alpha,
-            beta,
-            front,
-        } => {
-            let flag = front_flag(front);
-            slice::store(&[distance, gamma, alpha, beta, flag], out);
-            Written::Done
-        }
-        TriangleHit::Refused(refusal) => Written::Refused(refusal),
-    }
+    let hit = cast.intersect_triangle(first, second, third)?;
+    slice::store(&hit.record(), out);
+    Ok(())
 }

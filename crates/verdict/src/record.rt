@@ -1,4 +1,4 @@
-// Vectors read from a record, at places that it has.
+// Vectors read from a record, at places that it has. Two functions, since each is the list of its vector's own fields: one for both would need a trait with an impl for each.
 ghost use Rattle.std.specs.Prelude.{◌≡◌, ◌+◌, ◌<◌, length};
 ghost use Rattle.number.specs.Slice.{at};
 ghost use Rattle.matrix.specs.Vec.{vec3, vec4};

@@ -1,13 +1,35 @@
 -- Numbers as bytes, one behind the other. Assumes nothing.
-use mathlib.Core.Path.{◌≡◌, refl, sym, ap, ◌∙◌}
+use mathlib.Core.Path.{◌≡◌, refl, sym, ap, ap₂, ◌∙◌}
 use mathlib.Core.List.{List, [], ◌∷◌, ◌++◌, append_assoc, append-nil, flat_map}
-use Prim.Native.Nat.{ℕ, ◌+◌, ◌*◌, ◌<◌}
+use Prim.Native.Nat.{ℕ, zero, suc, ◌+◌, ◌*◌, ◌/◌, ◌%◌, ◌^◌, ◌<◌}
 use native.Mathlib.Numerals.{add-one}
 use native.Mathlib.Omega.{arith}
 use lib.ListN.{length, length-append, take, get_or}
 use lib.Seq.{take-suc}
-use lib.Ieee.{Float, nan}
+use lib.Ieee.{Float, nan, binary64, to_bits}
+use Rattle.std.specs.Int.{w64, byte_at, bytes_low_first, to_le_bytes}
+use Rattle.std.proofs.Math.Nat.{div-one, div-div-eq-div-mul, pow-suc}
 use Rattle.view_bytes.specs.CameraView.{bytes_of, number_bytes}
+
+-- ---- the bytes of a whole number
+
+byte_is : (i n m : ℕ) → m ≡ n / 256 ^ i → byte_at i n ≡ m % 256
+byte_is zero n m e = ap (λ (x : ℕ). x % 256) (sym (e ∙ div-one n))
+byte_is (suc i) n m e = ap (λ (x : ℕ). x % 256) (sym e)
+
+low_first : (k i n m : ℕ) → m ≡ n / 256 ^ i → bytes_low_first i k n ≡ bytes_of k m
+unfolding bytes_of
+low_first zero i n m e = refl
+low_first (suc k) i n m e =
+    let next : m / 256 ≡ n / 256 ^ suc i = ap (λ (x : ℕ). x / 256) e ∙ div-div-eq-div-mul n (256 ^ i) 256 ∙ ap (λ (x : ℕ). n / x) (sym (pow-suc 256 i)) in
+    ap₂ (λ (x : ℕ) (l : List ℕ). x ∷ l) (byte_is i n m e) (low_first k (suc i) n (m / 256) next)
+
+-- ---- those of numbers
+
+-- the bytes of a number, the low one first
+pub are_bytes : (w : ℕ) (x : Float) → w ≡ to_bits binary64 x → to_le_bytes w64 w ≡ number_bytes x
+unfolding number_bytes
+are_bytes w x e = low_first 8 0 w (to_bits binary64 x) (sym e ∙ sym (div-one w))
 
 pub eight : (x : Float) → length (number_bytes x) ≡ 8
 unfolding number_bytes bytes_of

@@ -1,29 +1,30 @@
 // Two matrices as bytes, and the volume that they make.
-ghost use Rattle.std.specs.Prelude.{◌≡◌, ◌+◌, ◌*◌, ◌≤◌, length};
+ghost use Rattle.std.specs.Prelude.{◌≡◌, ◌*◌, ◌≤◌, length};
 ghost use mathlib.Core.List.{flat_map};
 ghost use Rattle.number.specs.Answer.{reply};
-ghost use Rattle.farm.specs.Text.{shown, inserted, Puts};
+ghost use Rattle.farm.specs.Text.{text_room};
 ghost use Rattle.view_bytes.specs.CameraView.{number_bytes, volume_sent, camera_view};
 
-use farm::text::{TEXT_ROOM, Text, put, refused};
-use number::answer::{Refusal, Written};
+use farm::sections::NUMBER_SIZE;
+use farm::text::{Text, refused};
+use number::answer::Refusal;
 use number::bytes::load;
 use number::format::to_bits;
-use number::limits::MATRIX_LENGTH;
+use number::limits::{FEWEST_PLANES, MATRIX_LENGTH, PLANE_LENGTH, RAY_LENGTH};
 use volume::volume::from_view_and_projection;
 
-// The bytes of a number.
-const NUMBER_SIZE: usize = 8;
+// The bytes of two matrices.
+pub const MATRICES_SIZE: usize = 2 * NUMBER_SIZE * MATRIX_LENGTH;
 
-// The numbers of a volume of six planes.
-const VOLUME_LENGTH: usize = 49;
+// The numbers of a volume of the fewest planes: a count, the planes and four rays.
+const VOLUME_LENGTH: usize = 1 + FEWEST_PLANES as usize * PLANE_LENGTH + 4 * RAY_LENGTH;
 
 // The volume of the view and the projection matrix that a file holds.
-fn volume_sent(file: &[u8], out: &mut [f64]) -> Written
+fn volume_sent(file: &[u8], out: &mut [f64]) -> Result<(), Refusal>
     ensures { reply result out.new ≡ volume_sent file.now out.old }
 {
-    if file.len() != 2 * NUMBER_SIZE * MATRIX_LENGTH {
-        return Written::Refused(Refusal::InputLength);
+    if file.len() != MATRICES_SIZE {
+        return Err(Refusal::InputLength);
     }
     let mut view = [0.0f64; MATRIX_LENGTH];
     let mut projection = [0.0f64; MATRIX_LENGTH];
@@ -32,57 +33,25 @@ fn volume_sent(file: &[u8], out: &mut [f64]) -> Written
     from_view_and_projection(&view, &projection, out)
 }
 
-// The bytes of a number, the low one first.
-fn put_number(text: &mut [u8], at: usize, x: f64) -> usize
-    ensures { Puts text.old at (number_bytes x) result text.new }
+// The bytes of numbers, one behind the other, the low byte of each first.
+fn bytes_of_numbers(numbers: &[f64]) -> Text
+    requires { 8 * length numbers.now ≤ text_room }
+    ensures { result ≡ flat_map number_bytes numbers.now }
 {
-    let b0 = to_bits(x);
-    let b1 = b0 / 256;
-    let b2 = b1 / 256;
-    let b3 = b2 / 256;
-    let b4 = b3 / 256;
-    let b5 = b4 / 256;
-    let b6 = b5 / 256;
-    let b7 = b6 / 256;
-    let bytes = [
-        (b0 % 256) as u8,
-        (b1 % 256) as u8,
-        (b2 % 256) as u8,
-        (b3 % 256) as u8,
-        (b4 % 256) as u8,
-        (b5 % 256) as u8,
-        (b6 % 256) as u8,
-        (b7 % 256) as u8,
-    ];
-    put(text, at, &bytes)
-}
-
-// Those of numbers, one behind the other.
-fn put_numbers(text: &mut [u8], numbers: &[f64]) -> usize
-    requires { 8 * length numbers.now ≤ length text.old }
-    ensures { (result ≡ length (flat_map number_bytes numbers.now)) × (text.new ≡ inserted text.old 0 (flat_map number_bytes numbers.now)) }
-{
-    let mut at: usize = 0;
-    let mut i: usize = 0;
-    while i < numbers.len() {
-        at = put_number(text, at, numbers[i]);
-        i += 1;
+    let mut text = Text::new();
+    for x in numbers {
+        text.push(&to_bits(*x).to_le_bytes());
     }
-    at
+    text
 }
 
 // What the bytes of two matrices give.
 pub fn camera_view(file: &[u8]) -> Text
-    ensures { shown result ≡ camera_view file.now }
+    ensures { result ≡ camera_view file.now }
 {
-    let mut bytes = [0u8; TEXT_ROOM];
     let mut volume = [0.0f64; VOLUME_LENGTH];
-    let answer = volume_sent(file, &mut volume);
-    match answer {
-        Written::Done => {
-            let size = put_numbers(&mut bytes, &volume);
-            Text { bytes, size }
-        }
-        Written::Refused(refusal) => refused(refusal),
+    match volume_sent(file, &mut volume) {
+        Ok(()) => bytes_of_numbers(&volume),
+        Err(refusal) => refused(refusal),
     }
 }

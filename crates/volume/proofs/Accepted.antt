@@ -1,5 +1,6 @@
 -- A volume that was made has 49 finite numbers and holds six planes. The idea: the operation is not refused in one case alone, where the test of the numbers has
 -- passed. Assumes nothing.
+use Rattle.std.specs.Prelude.{None, Option, Some}
 use mathlib.Core.Path.{◌≡◌, refl, sym, ap, ◌∙◌}
 use mathlib.Core.Bool.{Bool, true, false, ◌&&◌}
 use mathlib.Core.List.{List}
@@ -14,8 +15,6 @@ use Rattle.matrix.specs.Constants.{rounded}
 use Rattle.matrix.specs.Inverse.{inverse}
 use Rattle.matrix.specs.Matrix.{matrix_of, product}
 use Rattle.matrix.specs.declared.matrix.Mat4d.{Mat4d}
-use Rattle.matrix.specs.declared.inverse.Inverted.{Inverted}
-use Rattle.matrix.specs.declared.inverse.Inverted.TheVariants.{Matrix, Singular}
 use Rattle.verdict.specs.View.{plane_count_of}
 use Rattle.verdict.proofs.PlanesHeld.{all_held}
 use Rattle.volume.specs.Volume.{numbers, finite_only, clip_volume_by, clip_volume, from_matrices_call}
@@ -36,10 +35,10 @@ tested : (m i : Mat4d) (b : Bool) → all_finite (numbers m i) ≡ b → Good m 
 tested m i true e = record { inverse = i; is = refl; finite = e }
 tested m i false e = λ z. omega (arith, z)
 
-good : (m : Mat4d) (i : Inverted) → Good m (clip_volume_by m i)
+good : (m : Mat4d) (i : Option Mat4d) → Good m (clip_volume_by m i)
 unfolding finite_only
-good m Singular = λ z. omega (arith, z)
-good m (Matrix i) = tested m i (all_finite (numbers m i)) refl
+good m None = λ z. omega (arith, z)
+good m (Some i) = tested m i (all_finite (numbers m i)) refl
 
 abbrev answer : Bool → Bool → Outcome (List Float) → List Float → Reply Float
 answer inputs room o out = unless inputs (refuse 1 out) (unless room (refuse 2 out) (replied o out))

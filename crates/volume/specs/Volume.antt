@@ -1,6 +1,6 @@
 -- The volume of a view and a projection matrix. Their product m brings points into clip space: a point p, as a row vector, becomes p · m, and is seen where x, y
 -- and z lie from −w to w there. That makes six planes, and rays along the four edges from the near plane on. Definitions only.
-use Rattle.std.specs.Prelude.{ℕ, ◌/◌, ◌%◌, Bool, ◌&&◌, eqb, length, Float}
+use Rattle.std.specs.Prelude.{ℕ, ◌/◌, ◌%◌, Bool, ◌&&◌, eqb, length, Float, None, Option, Some}
 use mathlib.Core.List.{List, [], ◌∷◌, ◌++◌, flat_map}
 use Rattle.std.specs.Float.Ieee.{neg}
 use Rattle.number.specs.Tabulate.{tabulate}
@@ -15,8 +15,6 @@ use Rattle.matrix.specs.Inverse.{signed_sum, inverse}
 use Rattle.matrix.specs.declared.vec.Vec3d.{Vec3d}
 use Rattle.matrix.specs.declared.vec.Vec4d.{Vec4d}
 use Rattle.matrix.specs.declared.matrix.Mat4d.{Mat4d}
-use Rattle.matrix.specs.declared.inverse.Inverted.{Inverted}
-use Rattle.matrix.specs.declared.inverse.Inverted.TheVariants.{Matrix, Singular}
 use Rattle.verdict.specs.declared.plane.Plane.{Plane}
 use Rattle.verdict.specs.declared.ray.Ray.{Ray}
 use Rattle.verdict.specs.Plane.{plane, numbers as plane_numbers}
@@ -69,9 +67,9 @@ numbers m inverse = record_of (tabulate (clip_plane m) fewest_planes) (tabulate 
 unfoldable pub finite_only : List Float → Outcome (List Float)
 finite_only s = unless (all_finite s) (refused 8) (outcome s)
 
-abbrev pub clip_volume_by : Mat4d → Inverted → Outcome (List Float)
-clip_volume_by m Singular = refused 4
-clip_volume_by m (Matrix inverse) = finite_only (numbers m inverse)
+abbrev pub clip_volume_by : Mat4d → Option Mat4d → Outcome (List Float)
+clip_volume_by m None = refused 4
+clip_volume_by m (Some inverse) = finite_only (numbers m inverse)
 
 unfoldable pub clip_volume : Mat4d → Outcome (List Float)
 unfolding finite_only numbers

@@ -35,15 +35,6 @@ module _ (a b c d x y z : ℤ)
   third : Held (wide c *ℤ wide z) (c *ℤ z) (normal_limit * grid_limit)
   third = held_times (widened c normal_limit C (lit< tt) (lit< tt)) (widened z grid_limit Z (lit< tt) (lit< tt))
 
-  pub first_fits : SFits w64 (wide a *ℤ wide x)
-  first_fits = held_fits w64 first (lit< tt)
-
-  pub second_fits : SFits w64 (wide b *ℤ wide y)
-  second_fits = held_fits w64 second (lit< tt)
-
-  pub third_fits : SFits w64 (wide c *ℤ wide z)
-  third_fits = held_fits w64 third (lit< tt)
-
   two : Held (to_z w64 (of_z w64 (wide a *ℤ wide x)) +ℤ to_z w64 (of_z w64 (wide b *ℤ wide y))) (a *ℤ x +ℤ b *ℤ y) (normal_limit * grid_limit + normal_limit * grid_limit)
   two = held_sum (read w64 first (lit< tt)) (read w64 second (lit< tt))
 
@@ -147,26 +138,8 @@ module _ {v : List ℤ} {i from : ℕ} {p : List ℤ} (g : OnGrid v i from p) wh
   ends : (nat_abs (number_at p 0) ≤ grid_limit) × (nat_abs (number_at p 1) ≤ grid_limit) × (nat_abs (number_at p 2) ≤ grid_limit)
   ends = point_sizes (point_of p) g.point
 
-  pub normal_0 : SFits w64 (to_z w32 (of_z w32 (number_at v from)))
-  normal_0 = widens (number_at v from) normal_limit sizes.0 (lit< tt) (lit< tt)
-
-  pub normal_1 : SFits w64 (to_z w32 (of_z w32 (number_at v (from + 1))))
-  normal_1 = widens (number_at v (from + 1)) normal_limit sizes.1 (lit< tt) (lit< tt)
-
-  pub normal_2 : SFits w64 (to_z w32 (of_z w32 (number_at v (from + 2))))
-  normal_2 = widens (number_at v (from + 2)) normal_limit sizes.2 (lit< tt) (lit< tt)
-
   pub distance : SFits w64 (to_z w32 (of_z w32 (number_at v (from + 3))))
   distance = widens (number_at v (from + 3)) distance_limit sizes.3 (lit< tt) (lit< tt)
-
-  pub point_0 : SFits w64 (to_z w32 (of_z w32 (number_at p 0)))
-  point_0 = widens (number_at p 0) grid_limit ends.0 (lit< tt) (lit< tt)
-
-  pub point_1 : SFits w64 (to_z w32 (of_z w32 (number_at p 1)))
-  point_1 = widens (number_at p 1) grid_limit ends.1 (lit< tt) (lit< tt)
-
-  pub point_2 : SFits w64 (to_z w32 (of_z w32 (number_at p 2)))
-  point_2 = widens (number_at p 2) grid_limit ends.2 (lit< tt) (lit< tt)
 
   abbrev a : ℤ
   a = number_at v from
@@ -188,15 +161,6 @@ module _ {v : List ℤ} {i from : ℕ} {p : List ℤ} (g : OnGrid v i from p) wh
 
   abbrev z : ℤ
   z = number_at p 2
-
-  pub product_0 : SFits w64 (wide a *ℤ wide x)
-  product_0 = first_fits a b c d x y z sizes.0 sizes.1 sizes.2 sizes.3 ends.0 ends.1 ends.2
-
-  pub product_1 : SFits w64 (wide b *ℤ wide y)
-  product_1 = second_fits a b c d x y z sizes.0 sizes.1 sizes.2 sizes.3 ends.0 ends.1 ends.2
-
-  pub product_2 : SFits w64 (wide c *ℤ wide z)
-  product_2 = third_fits a b c d x y z sizes.0 sizes.1 sizes.2 sizes.3 ends.0 ends.1 ends.2
 
   pub sum_of_two : SFits w64 (to_z w64 (of_z w64 (wide a *ℤ wide x)) +ℤ to_z w64 (of_z w64 (wide b *ℤ wide y)))
   sum_of_two = two_fit a b c d x y z sizes.0 sizes.1 sizes.2 sizes.3 ends.0 ends.1 ends.2

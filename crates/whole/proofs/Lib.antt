@@ -1,4 +1,5 @@
 -- The laws that the proofs of this crate, and of the crates above it, cite.
+pub mod Held
 pub mod Integer
 pub mod Dot
 pub mod Registers

@@ -3,6 +3,7 @@
 -- The idea: a placement has an inverse, so that its transpose carries the plane's equation into the box's space, in whole numbers far
 -- below 2 ^ 53; the normal there is a single 1 or -1 again, of length exactly 1.0, and stays as it is; and of the corner that the code
 -- takes only the coordinate along that axis counts.
+use Rattle.std.specs.Prelude.{Option}
 use mathlib.Core.Path.{◌≡◌, ap, ◌∙◌, subst}
 use mathlib.Core.Logic.Iff
 use mathlib.Core.Logic.{◌↔◌}
@@ -25,9 +26,9 @@ use Rattle.matrix.specs.Constants.{positive_zero, one}
 use Rattle.matrix.specs.Vec.{axis, axis4, vec3, dot}
 use Rattle.matrix.specs.Matrix.{identity, transpose}
 use Rattle.matrix.specs.Transform.{homogeneous}
+use Rattle.matrix.specs.declared.matrix.Mat4d.{Mat4d}
 use Rattle.matrix.specs.declared.vec.Vec3d.{Vec3d}
 use Rattle.matrix.specs.declared.vec.Vec4d.{Vec4d}
-use Rattle.matrix.specs.declared.inverse.Inverted.{Inverted}
 use Rattle.placed.specs.Placement.{sizes, WholeBox}
 use Rattle.farmgrid.specs.Placement.{WholeVec, WholeVec4, WholeRange, WholeMatrix, Within, NonEmpty, Placement, dot4ℤ}
 use Rattle.farmgrid.proofs.Numbers.WholeSigns.{abs_flip}
@@ -36,13 +37,14 @@ use Rattle.farmgrid.proofs.Placements.QuarterTurns.{widen, widen_placement}
 use Rattle.farmgrid.proofs.Numbers.WholeSums.{zero_whole, one_whole, axis_fit, dot_fit, whole_vec3}
 use Rattle.farmgrid.proofs.Placements.WholePlacements.{transposed_whole}
 use Rattle.farmgrid.proofs.Placements.Units.{unit_length, unit_normalized}
+use Rattle.matrix.specs.Inverse.{has_inverse}
 use Rattle.farmgrid.proofs.Placements.Inverses.{inverse_whole}
 use Rattle.farmgrid.proofs.Placements.WholeRanges.{nonempty_whole}
 use Rattle.verdict.specs.declared.plane.Plane.{Plane}
 use Rattle.verdict.specs.declared.bbox.BBox3d.{BBox3d}
 use Rattle.verdict.specs.Plane.{equation, from_equation, offset, end_toward, furthest, reaches_positive_side, under_inverse_transpose}
 use Rattle.verdict.proofs.ReachSum.{reach_by_dot}
-use Rattle.verdict.specs.BBox.{box_epsilon, flag_beside}
+use Rattle.verdict.specs.BBox.{box_epsilon}
 use Rattle.verdict.specs.Frustum.{into_space_of, box_in_view}
 use Rattle.exact.specs.ExactPoint.{Every}
 use Rattle.farmgrid.specs.FarmGrid.{AxisPlane, IsPlane, ArePlanes, IsBox}
@@ -72,7 +74,7 @@ epsilon_below_one = tt
 -- "The plane tests take a degenerate box as if its matrix were the identity": such a box is not degenerate
 into_space : {b : BBox3d} {B : WholeBox} → Wide b B → into_space_of b ≡ transpose b.matrix
 into_space {b} g =
-    ap (λ (i : Inverted). cond (not (flag_beside i).exists) identity (transpose b.matrix))
+    ap (λ (i : Option Mat4d). cond (not (has_inverse i)) identity (transpose b.matrix))
     (inverse_whole g.matrix (widen_placement (lit≤ tt) g.placement) box_epsilon epsilon_below_one).accepted
 
 -- ---- the parts of the test, over whole floats

@@ -2,6 +2,7 @@
 -- as the union of those that it stands for. The idea: the placed range of either candidate of `combine` is the union of the two placed
 -- ranges, so that it does not matter which candidate the volumes choose; and what is placed on the grid is, brought into the space of any
 -- placement of the grid, at most twice as large as the grid. Assumes nothing.
+use Rattle.std.specs.Prelude.{Some}
 use mathlib.Core.Path.{◌≡◌, refl, sym, ◌∙◌, subst}
 use mathlib.Core.Bool.{Bool, true, false, cond}
 use Prim.Native.Nat.{ℕ, ◌+◌, ◌≤◌, ◌<◌}
@@ -18,7 +19,6 @@ use Rattle.matrix.specs.Inverse.{inverse_above}
 use Rattle.matrix.specs.Range.{union, transformed}
 use Rattle.matrix.specs.declared.matrix.Mat4d.{Mat4d}
 use Rattle.matrix.specs.declared.range.Range3d.{Range3d}
-use Rattle.matrix.specs.declared.inverse.Inverted.TheVariants.{Matrix}
 use Rattle.farmgrid.specs.Placement.{WholeRange, WholeMatrix, Within, NonEmpty, PlacementWithin, Placement, GridPoint}
 use Rattle.farmgrid.specs.Placement.{productℤ, placed_low, placed_high}
 use Rattle.placed.specs.Placement.{smaller as smallerℤ, larger as largerℤ, WholeBox}
@@ -29,7 +29,7 @@ use Rattle.farmgrid.proofs.Placements.Inverses.{WholeInverse, inverse_whole}
 use Rattle.farmgrid.proofs.Placements.WholeRanges.{nonempty_whole, union_whole, transformed_whole}
 use Rattle.farmgrid.proofs.Placements.PlacedRanges.{extreme, placed, placed_is, placed_nonempty, placed_within, placed_product, placed_grown}
 use Rattle.verdict.specs.declared.bbox.BBox3d.{BBox3d}
-use Rattle.verdict.specs.BBox.{box_epsilon, flag_beside, extended, preferred, volume, smaller_box, merged, held, combined}
+use Rattle.verdict.specs.BBox.{box_epsilon, extended, preferred, volume, smaller_box, merged, held, combined}
 use Rattle.farmgrid.specs.FarmGrid.{IsBox}
 use Rattle.farmgrid.proofs.Combine.Extents.{extreme_ind, Extent, join, join_comm}
 
@@ -154,7 +154,7 @@ inverse_of A = inverse_whole A.matrix_is (widen_placement (lit≤ tt) A.placemen
 
 module _ (a b : BBox3d) {e f : Extent} (A : Holds a.range a.matrix e) (B : Holds b.range b.matrix f) where
   candidates : (m n : Mat4d) → WholeMatrix m (inverseℤ A.matrix) → WholeMatrix n (inverseℤ B.matrix)
-      → let c = merged a b (flag_beside (Matrix m)) (flag_beside (Matrix n)) in Holds c.range c.matrix (join e f)
+      → let c = merged a b (Some m) (Some n) in Holds c.range c.matrix (join e f)
   unfolding merged smaller_box extended
   candidates m n M N =
       let x = extended a b m in
@@ -162,7 +162,7 @@ module _ (a b : BBox3d) {e f : Extent} (A : Holds a.range a.matrix e) (B : Holds
       let Y : Holds y.range y.matrix (join e f) = subst (Holds y.range y.matrix) (join_comm f e) (grown_holds B A N) in
       chosen (preferred (volume x) (volume y)) x y (grown_holds A B M) Y
 
-  held_is : held a b ≡ merged a b (flag_beside (Matrix (inverse_of A).matrix)) (flag_beside (Matrix (inverse_of B).matrix))
+  held_is : held a b ≡ merged a b (Some (inverse_of A).matrix) (Some (inverse_of B).matrix)
   unfolding held
   held_is = rw (nonempty_whole A.range_is A.some, nonempty_whole B.range_is B.some, (inverse_of A).accepted, (inverse_of B).accepted)
 

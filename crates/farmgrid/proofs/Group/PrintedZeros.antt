@@ -1,5 +1,6 @@
 -- Where no translation listed is -0, no bound of what is combined and grouped is, and on the farm grid every mixture of calls leaves one aligned range, signs included.
 -- The idea: `combine` keeps one of two matrices as it is, or takes the identity, and a bound of a moved range is -0 only where the translation is. Assumes nothing.
+use Rattle.std.specs.Prelude.{None, Option, Some}
 use mathlib.Core.Path.{◌≡◌, refl, sym, ap, ◌∙◌, subst}
 use mathlib.Core.Bool.{Bool, true, false, cond}
 use mathlib.Core.List.{List, [], ◌∷◌}
@@ -25,7 +26,6 @@ use Rattle.matrix.proofs.Axes.{along}
 use Rattle.matrix.proofs.Same.{same_vec3, same_range}
 use Rattle.matrix.proofs.Signs.{positive, transformed_signs}
 use Rattle.verdict.specs.declared.bbox.BBox3d.{BBox3d}
-use Rattle.verdict.specs.declared.bbox.Inverse.{Inverse}
 use Rattle.verdict.specs.BBox.{numbers, box_of, aligned_range, extended, preferred, volume, smaller_box, aligned, merged, held, combined, into_box}
 use Rattle.verdict.specs.BBoxCalls.{flagged, combine_call, aligned_range_call}
 use Rattle.group.proofs.Written.{flag_read}
@@ -50,14 +50,12 @@ module _ (P : Mat4d → Type 0) (a b : BBox3d) (A : P a.matrix) (B : P b.matrix)
   either true x y X Y = X
   either false x y X Y = Y
 
-  of_merged : (i j : Inverse) → P (merged a b i j).matrix
+  of_merged : (i j : Option Mat4d) → P (merged a b i j).matrix
   unfolding merged smaller_box extended
-  of_merged i j =
-      let x = extended a b i.matrix in
-      let y = extended b a j.matrix in
-      either i.exists (cond j.exists (smaller_box x y) x) (cond j.exists y (aligned a b))
-      (either j.exists (smaller_box x y) x (either (preferred (volume x) (volume y)) x y A B) A)
-      (either j.exists y (aligned a b) B I)
+  of_merged (Some i) (Some j) = let x = extended a b i in let y = extended b a j in either (preferred (volume x) (volume y)) x y A B
+  of_merged (Some i) None = A
+  of_merged None (Some j) = B
+  of_merged None None = I
 
   of_combined : P (combined a b).matrix
   unfolding combined held

@@ -1,6 +1,7 @@
 -- The inverse of a placement is exact: its determinant is the float 1 or -1, so that it is accepted above every epsilon
 -- below 1, and each number of its inverse is that of the integer inverse. The idea: the cofactors are sums of six products
 -- with at most one translation in each, exact far below 2 ^ 53, and 1 / ±1 is ±1.
+use Rattle.std.specs.Prelude.{None, Option, Some}
 use mathlib.Core.Path.{◌≡◌, refl, ap, ◌∙◌, subst}
 use Prim.Native.Nat.{ℕ, suc, ◌+◌, ◌*◌, ◌%◌, ◌^◌, ◌≤◌, ◌<◌}
 use native.Mathlib.Omega.{arith}
@@ -18,8 +19,6 @@ use Rattle.farmgrid.proofs.Numbers.Exact.{abs_whole, abs_signed}
 use Rattle.number.proofs.Magnitude.{abs_fits}
 use Rattle.farmgrid.proofs.Numbers.Fit.{Fit, fit_sum, fit_minus, fit_times, fit_neg}
 use Rattle.matrix.specs.declared.matrix.Mat4d.{Mat4d}
-use Rattle.matrix.specs.declared.inverse.Inverted.{Inverted}
-use Rattle.matrix.specs.declared.inverse.Inverted.TheVariants.{Matrix, Singular}
 use Rattle.matrix.specs.Constants.{one}
 use Rattle.matrix.specs.Matrix.{entry}
 use Rattle.matrix.specs.Inverse.{turned, signed_sum, expanded, skipping, cofactor, adjugate, determinant, scaled, inverse_above}
@@ -66,9 +65,9 @@ without_below : (i r n : ℕ) → r < n → skipping i r < suc n
 without_below i r n h = by_test (λ u. cond u r (r + 1) < suc n) (ltb r i) (λ t. omega arith) (λ t. omega arith)
 
 -- an inverse was accepted, and is the whole matrix g
-pub record WholeInverse (answer : Inverted) (g : ℕ → ℕ → ℤ) : Type 0 where
+pub record WholeInverse (answer : Option Mat4d) (g : ℕ → ℕ → ℤ) : Type 0 where
   pub matrix : Mat4d
-  pub accepted : answer ≡ Matrix matrix
+  pub accepted : answer ≡ Some matrix
   pub numbers : WholeMatrix matrix g
 
 module _ {m : Mat4d} {f : ℕ → ℕ → ℤ} (M : WholeMatrix m f) (F : PlacementWithin wide f) where
@@ -107,8 +106,8 @@ module _ {m : Mat4d} {f : ℕ → ℕ → ℤ} (M : WholeMatrix m f) (F : Placem
   unfolding inverse_above
   inverse_whole epsilon h =
       let n = scaled (adjugate m) (one ⊘ determinant m) in
-      record { matrix = n; accepted = accepted (lt epsilon (abs_of (determinant m))) (Matrix n) (rw determinant_one h); numbers = scaled_whole }
+      record { matrix = n; accepted = accepted (lt epsilon (abs_of (determinant m))) (Some n) (rw determinant_one h); numbers = scaled_whole }
     where
-      accepted : (u : Bool) (x : Inverted) → T u → unless u Singular x ≡ x
+      accepted : (u : Bool) (x : Option Mat4d) → T u → unless u None x ≡ x
       accepted true x t = refl
       accepted false x t = absurd t

@@ -1,5 +1,6 @@
 -- On the farm grid the blocking plane is the exact one. The idea: the segment verdict is exact over any list of planes, so over those without one as well. Assumes
 -- nothing.
+use Rattle.std.specs.Prelude.{None, Option, Some, ℕ}
 use mathlib.Core.Path.{◌≡◌, refl, sym, ap, subst, ◌∙◌}
 use mathlib.Core.Logic.{◌↔◌}
 use mathlib.Core.Bool.{Bool, true, false}
@@ -10,7 +11,7 @@ use lib.Dec.{T}
 use lib.ListN.{length}
 use lib.IntN.{ℤ}
 use lib.Ieee.{Float}
-use Rattle.number.specs.Answer.{Outcome, refused, outcome, Found, nowhere, found}
+use Rattle.number.specs.Answer.{Outcome, refused, outcome}
 use Rattle.number.proofs.Tabulate.{as_many}
 use Rattle.matrix.specs.Vec.{vec3_of}
 use Rattle.matrix.specs.declared.vec.Vec3d.{Vec3d}
@@ -64,22 +65,22 @@ module _ {ps : List Plane} {Ps : List WholePlane} {a b : Vec3d} {A B : ℕ → �
 
 -- ---- answers
 
-same_refusal : (j k : ℕ) → ◌≡◌ {A = Outcome Found} (refused j) (refused k) → k ≡ j
+same_refusal : (j k : ℕ) → ◌≡◌ {A = Outcome (Option ℕ)} (refused j) (refused k) → k ≡ j
 same_refusal j k e = cc
 
-same_result : (f g : Found) → ◌≡◌ {A = Outcome Found} (outcome f) (outcome g) → f ≡ g
+same_result : (f g : Option ℕ) → ◌≡◌ {A = Outcome (Option ℕ)} (outcome f) (outcome g) → f ≡ g
 same_result f g e = cc
 
-not_both : (k : ℕ) (f : Found) → refused k ≡ outcome f → ⊥
+not_both : (k : ℕ) (f : Option ℕ) → refused k ≡ outcome f → ⊥
 not_both k f e = let z : ◌≡◌ {A = ℕ} 0 1 = cc in omega arith
 
-module _ (answer : Outcome Found) {ps : List Plane} {Ps : List WholePlane} {a b : Vec3d} {A B : ℕ → ℤ} (hs : ArePlanes SegmentPlane ps Ps) (g : IsPoint a A) (g' : IsPoint b B) where
+module _ (answer : Outcome (Option ℕ)) {ps : List Plane} {Ps : List WholePlane} {a b : Vec3d} {A B : ℕ → ℤ} (hs : ArePlanes SegmentPlane ps Ps) (g : IsPoint a A) (g' : IsPoint b B) where
   when_seen : 0 < length Ps → SegmentInView Ps A B → answer ≡ refused 14 → BlockingAnswer answer Ps A B
   when_seen l s e = record {
     in_view = (λ f. s, λ t. e);
     no_other = λ k f. same_refusal 14 k (sym e ∙ f);
-    named = λ i. (λ f. absurd (not_both 14 (found i) (sym e ∙ f)), λ h. absurd (h.0 s));
-    none = (λ f. absurd (not_both 14 nowhere (sym e ∙ f)), λ h. absurd (h 0 l (still_seen Ps A B l s)));
+    named = λ i. (λ f. absurd (not_both 14 (Some i) (sym e ∙ f)), λ h. absurd (h.0 s));
+    none = (λ f. absurd (not_both 14 None (sym e ∙ f)), λ h. absurd (h 0 l (still_seen Ps A B l s)));
   }
 
   when_hidden : (SegmentInView Ps A B → ⊥) → answer ≡ outcome (blocking_plane ps a b) → BlockingAnswer answer Ps A B
@@ -87,11 +88,11 @@ module _ (answer : Outcome Found) {ps : List Plane} {Ps : List WholePlane} {a b 
     in_view = (λ f. absurd (not_both 14 (blocking_plane ps a b) (sym f ∙ e)), λ s. absurd (u s));
     no_other = λ k f. absurd (not_both k (blocking_plane ps a b) (sym f ∙ e));
     named = λ i. (
-      λ f. (u, (blocking_is hs g g' i).0 ((blocking_means ps a b i).0 (same_result (blocking_plane ps a b) (found i) (sym e ∙ f)))),
+      λ f. (u, (blocking_is hs g g' i).0 ((blocking_means ps a b i).0 (same_result (blocking_plane ps a b) (Some i) (sym e ∙ f)))),
       λ h. e ∙ ap outcome ((blocking_means ps a b i).1 ((blocking_is hs g g' i).1 h.1)),
     );
     none = (
-      λ f. (none_is hs g g').0 ((none_means ps a b).0 (same_result (blocking_plane ps a b) nowhere (sym e ∙ f))),
+      λ f. (none_is hs g g').0 ((none_means ps a b).0 (same_result (blocking_plane ps a b) None (sym e ∙ f))),
       λ h. e ∙ ap outcome ((none_means ps a b).1 ((none_is hs g g').1 h)),
     );
   }

@@ -1,5 +1,6 @@
 -- What the grid operation accepts is a grid point. The idea: it is accepted only where all three coordinates are on the grid, and a whole number of that
 -- size is a float without rounding.
+use Rattle.std.specs.Prelude.{None, Option, Some}
 use mathlib.Core.Path.{◌≡◌, refl, sym, ap, subst}
 use mathlib.Core.Bool.{Bool, true, false, cond, false≢true}
 use mathlib.Core.List.{List, [], ◌∷◌}
@@ -13,8 +14,6 @@ use Rattle.number.specs.Limits.{grid_limit}
 use Rattle.number.specs.Answer.{Reply, refuse, replied, unless, has, leaving}
 use Rattle.number.specs.Grid.{centimetres, whole_nearest, signed, placed, grid_coordinates, grid_numbers, grid_call}
 use Rattle.number.specs.Slice.{at}
-use Rattle.number.specs.declared.grid.Coordinate.{Coordinate}
-use Rattle.number.specs.declared.grid.Coordinate.TheVariants.{On, Off}
 use Rattle.farmgrid.specs.Whole.{Whole}
 use Rattle.farmgrid.specs.Survey.{GridPointOf, SurveyExact}
 use Rattle.farmgrid.proofs.Numbers.Exact.{abs_signed, of_whole}
@@ -22,16 +21,16 @@ use Rattle.matrix.proofs.Axes.{along}
 
 -- ---- one coordinate
 
-abbrev whole_at : Coordinate → ℤ
-whole_at (On z) = z
-whole_at Off = pos 0
+abbrev whole_at : Option ℤ → ℤ
+whole_at (Some z) = z
+whole_at None = pos 0
 
-abbrev on_grid : Coordinate → Bool
-on_grid (On z) = true
-on_grid Off = false
+abbrev on_grid : Option ℤ → Bool
+on_grid (Some z) = true
+on_grid None = false
 
 -- what is on the grid is no larger than its limit
-limited : (x : Float) (z : ℤ) → placed x ≡ On z → nat_abs z ≤ grid_limit
+limited : (x : Float) (z : ℤ) → placed x ≡ Some z → nat_abs z ≤ grid_limit
 unfolding placed
 limited nan z e = absurd (false≢true (ap on_grid e))
 limited (inf s) z e = absurd (false≢true (ap on_grid e))
@@ -40,7 +39,7 @@ limited (fin s m e) z h = go (leb n grid_limit) (leb→le n grid_limit) h
     n : ℕ
     n = whole_nearest (m * up e) (down e)
 
-    go : (b : Bool) → (T b → n ≤ grid_limit) → cond b (On (signed s n)) Off ≡ On z → nat_abs z ≤ grid_limit
+    go : (b : Bool) → (T b → n ≤ grid_limit) → cond b (Some (signed s n)) None ≡ Some z → nat_abs z ≤ grid_limit
     go true l k = subst (λ (y : ℤ). nat_abs y ≤ grid_limit) (ap whole_at k) (subst (λ (i : ℕ). i ≤ grid_limit) (sym (abs_signed s n)) (l tt))
     go false l k = absurd (false≢true (ap on_grid k))
 
@@ -56,24 +55,24 @@ module _ (x y z : Float) (out : List Float) where
   abbrev p : List Float
   p = x ∷ y ∷ z ∷ []
 
-  abbrev answer : Bool → Bool → List Coordinate → Reply Float
+  abbrev answer : Bool → Bool → List (Option ℤ) → Reply Float
   answer inputs room cs = unless inputs (refuse 1 out) (unless room (refuse 2 out) (replied (grid_numbers cs) out))
 
-  accepted : (i r : Bool) (a b c : Coordinate) → placed (centimetres x) ≡ a → placed (centimetres y) ≡ b → placed (centimetres z) ≡ c
+  accepted : (i r : Bool) (a b c : Option ℤ) → placed (centimetres x) ≡ a → placed (centimetres y) ≡ b → placed (centimetres z) ≡ c
       → (answer i r (a ∷ b ∷ c ∷ [])).status ≡ 0 → GridPointOf p (answer i r (a ∷ b ∷ c ∷ [])).out
   unfolding grid_numbers
   accepted false r a b c f g h e = absurd (omega (arith, e))
   accepted true false a b c f g h e = absurd (omega (arith, e))
-  accepted true true Off b c f g h e = absurd (omega (arith, e))
-  accepted true true (On u) Off c f g h e = absurd (omega (arith, e))
-  accepted true true (On u) (On v) Off f g h e = absurd (omega (arith, e))
-  accepted true true (On u) (On v) (On w) f g h e =
+  accepted true true None b c f g h e = absurd (omega (arith, e))
+  accepted true true (Some u) None c f g h e = absurd (omega (arith, e))
+  accepted true true (Some u) (Some v) None f g h e = absurd (omega (arith, e))
+  accepted true true (Some u) (Some v) (Some w) f g h e =
       let A = limited _ u f in
       let B = limited _ v g in
       let C = limited _ w h in
       record {
         point = three u v w;
-        rule = along (λ i. placed (centimetres (at p i)) ≡ On (three u v w i)) f g h;
+        rule = along (λ i. placed (centimetres (at p i)) ≡ Some (three u v w i)) f g h;
         left = record {
           numbers = refl;
           point = record {

@@ -1,10 +1,11 @@
 -- The magnitude that a bit pattern stands for (IEEE 754, clause 3.4), taken apart and rounded. Definitions only.
 -- A pattern is a whole number, here without its sign, and a magnitude is so many of its format's smallest values. Assumes nothing.
-use Rattle.std.specs.Prelude.{◌≡◌, ℕ, zero, suc, ◌+◌, ◌*◌, ◌/◌, ◌%◌, ◌^◌, ◌<◌, ◌≤◌, Bool, cond, from_bits}
+use Rattle.std.specs.Prelude.{◌≡◌, ℕ, zero, suc, ◌+◌, ◌*◌, ◌/◌, ◌%◌, ◌^◌, ◌<◌, ◌≤◌, Bool, false, cond, from_bits, to_bits, is_nan, nat_le, Float}
 use Rattle.std.specs.Float.{Format, binary32, binary64}
 use Rattle.std.specs.Float.Ieee.{hid, top}
 use Rattle.number.specs.Format.{narrow_of}
-use Rattle.number.specs.declared.Scaled.{Scaled}
+use Rattle.number.specs.declared.parts.Parts.{Parts}
+use Rattle.number.specs.declared.parts.Scaled.{Scaled}
 
 -- in units of the format's smallest value, by the exponent's field and the fraction: a field of 0 has no leading digit
 abbrev pub field_units : Format → ℕ → ℕ → ℕ
@@ -14,6 +15,12 @@ field_units f (suc x) t = (hid f + t) * 2 ^ x
 -- of a pattern b
 abbrev pub units_of : Format → ℕ → ℕ
 units_of f b = field_units f (b / hid f) (b % hid f)
+
+-- The parts of a number x: whether its sign is set, and its bits without the sign.
+pub record PartsOf (x : Float) (p : Parts) : Type 0 where
+  pub number : is_nan x ≡ false
+  pub negative : p.negative ≡ nat_le (top binary64) (to_bits binary64 x)
+  pub magnitude : p.magnitude.bits ≡ to_bits binary64 x % top binary64
 
 -- A magnitude b above zero as a significand of 53 digits and a scale: significand * 2 ^ (scale - 52) smallest values.
 pub record Normalised (b : ℕ) (p : Scaled) : Type 0 where

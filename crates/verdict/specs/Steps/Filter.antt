@@ -1,7 +1,7 @@
 -- A floating-point filter for the test of a plane by a range: an estimate whose sign tells the side, and a bound on its error, as computational geometry has them (S. Fortune and C. J. Van Wyk 1993; J. R. Shewchuk 1997).
 -- The equation n, w is that of a plane carried into a box's space and c the corner of the box's range that is furthest along n: the range reaches the plane's positive side where n · c + w is at least 0,
 -- which needs no length of n. Both are floats of any kind; `trusted` refuses those for which the bound would not hold. Definitions and a statement only.
-use Rattle.std.specs.Prelude.{◌≡◌, ◌^◌, Bool, false, not, ◌&&◌, T, Float}
+use Rattle.std.specs.Prelude.{◌≡◌, ◌^◌, Bool, false, cond, not, ◌&&◌, T, Float, Option, None, Some}
 use Rattle.std.specs.Float.{binary64}
 use Rattle.std.specs.Float.Ieee.{fits, lt, le, neg}
 use Rattle.number.specs.Arithmetic.{◌⊕◌, ◌⊗◌, abs_of}
@@ -11,7 +11,6 @@ use Rattle.matrix.specs.Range.{is_empty}
 use Rattle.matrix.specs.declared.vec.Vec3d.{Vec3d}
 use Rattle.matrix.specs.declared.vec.Vec4d.{Vec4d}
 use Rattle.matrix.specs.declared.range.Range3d.{Range3d}
-use Rattle.verdict.specs.declared.reach.Filtered.{Filtered}
 use Rattle.verdict.specs.Plane.{furthest, from_equation, reaches_positive_side}
 
 -- ---- bounds beyond any farm, within which nothing overflows and what is lost near the least number of the format is less than the error
@@ -62,8 +61,12 @@ error_of size = size ⊗ part
 abbrev pub trusted : Vec4d → Range3d → Bool
 trusted e r = lt (extent_of r) long && lt (short ⊗ short) (square_of e) && lt (square_of e) (long ⊗ long) && lt least_size (size_of e r) && lt (size_of e r) most_size
 
-unfoldable pub filtered_of : Vec4d → Range3d → Filtered
-filtered_of e r = record { estimate = estimate_of e r; error = error_of (size_of e r); trusted = trusted e r }
+-- Whether any of the range is on the positive side of the plane that the equation makes, where the filter tells.
+unfoldable pub settled_of : Vec4d → Range3d → Option Bool
+settled_of e r =
+    let error = error_of (size_of e r) in
+    let estimate = estimate_of e r in
+    cond (trusted e r && le error estimate) (Some (not (is_empty r))) (cond (trusted e r && lt estimate (neg error)) (Some false) None)
 
 -- the numbers are values of the format, as every number of the code is
 abbrev pub Fits : Vec4d → Type 0

@@ -14,14 +14,10 @@ use Rattle.matrix.specs.declared.matrix.Mat4d.{Mat4d}
 use Rattle.verdict.specs.declared.plane.Plane.{Plane}
 use Rattle.verdict.specs.declared.clip.Sides.{Sides}
 use Rattle.verdict.specs.Plane.{on_positive_side}
-use Rattle.verdict.specs.View.{near_plane, plane_start, volume_length}
+use Rattle.verdict.specs.View.{near_plane, volume_length}
 use Rattle.verdict.specs.Frustum.{has_end, span_left}
 
 -- ---- what a verdict is given: the numbers of a view and a count
-
--- they have room for n planes, and there may be so many
-abbrev pub HasPlanes : List Float → ℕ → Type 0
-HasPlanes s n = (n ≤ most_planes) × (plane_start n ≤ length s)
 
 -- they are a record of n planes, the original ones at least, and of the rays
 pub record IsView (s : List Float) (n : ℕ) : Type 0 where

@@ -1,30 +1,26 @@
 -- `blocking_calls::blocking_plane` meets its contract: each way out is the call's. Assumes nothing.
-use mathlib.Core.Path.{sym, ap, ap₂, ◌∙◌}
-use Rattle.number.specs.Answer.{verdict_of, outcome}
-use Rattle.verdict.specs.View.{held_of}
-use Rattle.verdict.proofs.PlanesHeld.{held, has_planes}
+use mathlib.Core.Path.{sym, ap, ◌∙◌}
+use Rattle.number.specs.Answer.{outcome}
+use Rattle.verdict.specs.View.{planes_of}
+use Rattle.verdict.proofs.PassedOn.{passed_on}
 use Rattle.blocking.specs.Blocking.{blocking_plane}
 use Rattle.blocking.proofs.Calls.{not_answered, in_view_lem, not_held, answered}
 use Rattle.blocking.proofs.blocking_calls.blocking_plane.Goals as goal
 
-pub blocking_plane-requires : goal.blocking_plane-requires
-blocking_plane-requires c =
-    has_planes (held _ _ (ap held_of (sym c.in-Planes.is) ∙ c.planes_held.ensures))
+pub returns-in_err-intersects_segment : goal.returns-in_err-intersects_segment
+returns-in_err-intersects_segment c =
+    passed_on _ _ c.from_residual.ensures.1 (not_answered _ _ _ _ c.in_err-intersects_segment.ensures)
 
-pub returns-in-Refused : goal.returns-in-Refused
-returns-in-Refused c =
-    not_answered _ _ _ _ (ap verdict_of (sym c.in-Refused.is) ∙ c.intersects_segment.ensures)
+pub returns-then-branch : goal.returns-then-branch
+returns-then-branch c = in_view_lem _ _ _ (ap outcome (sym c.if-branch.true) ∙ c.in_ok-intersects_segment.ensures)
 
-pub returns-in-Yes : goal.returns-in-Yes
-returns-in-Yes c = in_view_lem _ _ _ (ap verdict_of (sym c.in-Yes.is) ∙ c.intersects_segment.ensures)
+pub returns : goal.returns
+returns c =
+    let h = c.in_ok-view.ensures.held in
+    answered _ _ _ (ap outcome (sym c.if-branch.false) ∙ c.in_ok-intersects_segment.ensures) _ _ h.1
+    (ap outcome (c.blocking_plane.ensures ∙ (λ t. blocking_plane (planes_of (h.0 t) c.in_ok-view.view.planes.count) (c.load.ensures t) (c.load-2.ensures t))))
 
-pub returns-in-Planes : goal.returns-in-Planes
-returns-in-Planes c =
-    answered _ _ _ (ap verdict_of (sym c.in-No.is) ∙ c.intersects_segment.ensures) _ _
-    (ap held_of (sym c.in-Planes.is) ∙ c.planes_held.ensures)
-    (c.blocking_plane.ensures ∙ ap outcome (ap₂ (blocking_plane _) c.load.ensures c.load-in-Planes.ensures))
-
-pub returns-in-Refused-planes_held : goal.returns-in-Refused-planes_held
-returns-in-Refused-planes_held c =
-    not_held _ _ _ (ap verdict_of (sym c.in-No.is) ∙ c.intersects_segment.ensures) _
-    (ap held_of (sym c.in-Refused-planes_held.is) ∙ c.planes_held.ensures)
+pub returns-in_err-view : goal.returns-in_err-view
+returns-in_err-view c =
+    passed_on _ _ c.from_residual-in_err-view.ensures.1
+    (not_held _ _ _ (ap outcome (sym c.if-branch.false) ∙ c.in_ok-intersects_segment.ensures) _ c.in_err-view.ensures.refused)

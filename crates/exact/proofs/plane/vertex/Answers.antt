@@ -1,6 +1,6 @@
 -- `vertex` meets its contract: three cross products, their dot products with the distances, and the determinant. Assumes nothing.
 use Rattle.exact.proofs.Machine.{plane_sized}
-use Rattle.exact.proofs.Vertices.{determinant_products, products_x, products_y, products_z, over_given, vertex_is}
+use Rattle.exact.proofs.Vertices.{determinant_products, products_x, products_y, products_z, over_given, vertex_only}
 use Rattle.exact.proofs.plane.vertex.Goals as goal
 
 pub cross-bc-requires : goal.cross-bc-requires
@@ -39,6 +39,6 @@ over-requires c =
 
 pub returns : goal.returns
 returns c =
-    vertex_is c.args.a c.args.b c.args.c c.requires.0 c.requires.1 c.requires.2
+    vertex_only c.args.a c.args.b c.args.c c.requires.0 c.requires.1 c.requires.2
     c.cross-bc.result c.cross-ca.result c.cross-ab.result c.cross-bc.ensures c.cross-ca.ensures c.cross-ab.ensures
     c.dot-k.result c.dot.result c.dot-2.result c.dot-3.result c.dot-k.ensures c.dot.ensures c.dot-2.ensures c.dot-3.ensures c.over.result c.over.ensures

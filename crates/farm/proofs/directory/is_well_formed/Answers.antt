@@ -3,6 +3,7 @@ use mathlib.Core.Path.{◌≡◌, ap}
 use mathlib.Core.Bool.{Bool, false, ◌&&◌}
 use mathlib.Core.List.{List}
 use Prim.Native.Nat.{ℕ, ◌<◌, ◌≤◌}
+use native.Mathlib.Omega.{arith}
 use borrow.Author.Tests.{le-leb, lt-leb}
 use lib.Dec.{leb}
 use lib.ListN.{length}
@@ -56,10 +57,10 @@ returns-then-count-lt-FEWEST_SECTIONS c = few _ c.word_32-sections.result c.word
 pub returns-then-count-gt-MOST_SECTIONS : goal.returns-then-count-gt-MOST_SECTIONS
 returns-then-count-gt-MOST_SECTIONS c = many _ c.word_32-sections.result c.word_32-sections.ensures c.if-file-lt-WORD_SIZE.false c.if-count-lt-FEWEST_SECTIONS.false c.if-count-gt-MOST_SECTIONS.true
 
-pub returns-then-file-count : goal.returns-then-file-count
-returns-then-file-count c =
-    cut _ c.word_32-sections.result c.word_32-sections.ensures c.if-file-lt-WORD_SIZE.false c.if-count-lt-FEWEST_SECTIONS.false c.if-count-gt-MOST_SECTIONS.false c.if-file-count.true
+pub returns-then-file-entry_at : goal.returns-then-file-entry_at
+returns-then-file-entry_at c =
+    cut _ c.word_32-sections.result c.word_32-sections.ensures c.if-file-lt-WORD_SIZE.false c.if-count-lt-FEWEST_SECTIONS.false c.if-count-gt-MOST_SECTIONS.false (omega (arith, c.if-file-entry_at.true, c.entry_at.ensures))
 
 pub returns : goal.returns
 returns c =
-    left _ c.word_32-sections.result c.word_32-sections.ensures c.if-file-lt-WORD_SIZE.false c.if-count-lt-FEWEST_SECTIONS.false c.if-count-gt-MOST_SECTIONS.false c.if-file-count.false _ c.in_order.ensures
+    left _ c.word_32-sections.result c.word_32-sections.ensures c.if-file-lt-WORD_SIZE.false c.if-count-lt-FEWEST_SECTIONS.false c.if-count-gt-MOST_SECTIONS.false (omega (arith, c.if-file-entry_at.false, c.entry_at.ensures)) _ c.in_order.ensures

@@ -12,4 +12,5 @@ same a b c d p q = rw (p, q)
 pub returns : goal.returns
 returns c =
     let b = c.args.file.now in
-    same _ _ _ _ c.word_32.ensures (c.word_32-2.ensures ∙ ap (word_at 4 b) (omega arith))
+    let e = c.entry_at-entry.ensures in
+    same _ _ _ _ (c.word_32.ensures ∙ ap (word_at 4 b) e) (c.word_32-2.ensures ∙ ap (word_at 4 b) (omega (arith, e)))

@@ -1,5 +1,6 @@
 -- `farm_file::judge_by` meets its contract: each check by its test, in their order, and what is left by what it calls. Assumes nothing.
-use mathlib.Core.Path.{◌≡◌, sym, ap, ◌∙◌}
+use Rattle.std.proofs.lemmas.Result.{err_from_is_err_and}
+use mathlib.Core.Path.{◌≡◌, sym, ap, subst, ◌∙◌}
 use mathlib.Core.Bool.{Bool, true, false}
 use mathlib.Core.List.{List}
 use Prim.Native.Nat.{ℕ, ◌<◌, ◌≤◌}
@@ -8,15 +9,11 @@ use borrow.Author.Tests.{le-leb, lt-leb, eq-eqb, ne_eqb}
 use lib.ListN.{length}
 use lib.Ieee.{Float}
 use Rattle.number.specs.Limits.{largest_file}
-use Rattle.number.specs.Answer.{Outcome, refused, outcome, unless, and_then}
-use Rattle.verdict.specs.View.{held_of}
-use Rattle.farm.specs.Directory.{well_formed, file_numbers}
-use Rattle.farm.specs.FarmFile.{plane_count, checked_file, slot_count, listing, listed, farm_file_call, numbers_room}
-use Rattle.farm.specs.Steps.{Measured, sized_planes, boxes_seen, judge_call, JudgedBy}
-use Rattle.farm.proofs.Placed.{at_most}
-use Rattle.farm.proofs.Measured.{within}
-use Rattle.farm.proofs.Batch.{numbers_long}
-use Rattle.farm.proofs.Answers.{planes_decide, planes_measured, with_room}
+use Rattle.number.specs.Answer.{Outcome, refused, outcome, and_then}
+use Rattle.farm.specs.Directory.{well_formed, file_numbers, InFront}
+use Rattle.farm.specs.FarmFile.{checked_file, slot_count, listing, listed, farm_file_call}
+use Rattle.farm.specs.Steps.{sized_planes, boxes_seen, JudgedBy}
+use Rattle.farm.proofs.Answers.{planes_decide}
 use Rattle.farm.proofs.farm_file.judge_by.Goals as goal
 
 module _ (b out : List ℕ) where
@@ -41,78 +38,46 @@ module _ (b out : List ℕ) where
       by_planes : well_formed b ≡ true → (o : Outcome ℕ) → o ≡ sized_planes b → listed (and_then o (λ n. boxes_seen b)) out ≡ farm_file_call b out
       by_planes w o e = ap (λ (x : Outcome (List Bool)). listed x out) (planes_decide b w o e) ∙ left
 
+      -- the same of bytes that are the file's
+      by_sections : (d : List ℕ) → d ≡ b → well_formed d ≡ true → (o : Outcome ℕ) → o ≡ sized_planes d → listed (and_then o (λ n. boxes_seen d)) out ≡ farm_file_call b out
+      by_sections d e w o f =
+          subst (λ (x : List ℕ). listed (and_then o (λ n. boxes_seen x)) out ≡ farm_file_call b out) (sym e)
+          (by_planes (subst (λ (x : List ℕ). well_formed x ≡ true) e w) o (f ∙ ap sized_planes e))
+
 module _ (b : List ℕ) (room : List Float) (out : List ℕ) where
-  stopped : (k : ℕ) → listing (refused k) out ≡ judge_call b room out → JudgedBy b room out (refused k) room out
+  stopped : (k : ℕ) → listing (refused k) out ≡ farm_file_call b out → JudgedBy b out (refused k) room out
   stopped k e = record { call = e; kept = λ n f. let z : ◌≡◌ {A = ℕ} 0 1 = cc in absurd (omega (arith, z)) }
-
-  other_room : (length room ≡ numbers_room → ⊥) → listing (refused 2) out ≡ judge_call b room out
-  unfolding judge_call
-  other_room h = sym (ap (λ (t : Bool). unless t (listing (refused 2) out) (farm_file_call b out)) (ne_eqb (length room) numbers_room h))
-
-  module _ (h : length room ≡ numbers_room) where
-    as_asked : farm_file_call b out ≡ judge_call b room out
-    as_asked = sym (with_room b room out h)
-
-    refused_so : (k : ℕ) → listing (refused k) out ≡ farm_file_call b out → JudgedBy b room out (refused k) room out
-    refused_so k e = stopped k (e ∙ as_asked)
-
--- a file whose planes were counted
-measured : (b : List ℕ) → well_formed b ≡ true → (n : ℕ) → outcome n ≡ sized_planes b → Measured b × (n ≡ plane_count b)
-measured b w n e = let m = planes_measured b n e in (record { formed = w; count = m.0; sizes = m.1 }, m.2)
-
-enough : (b : List ℕ) → Measured b → length (file_numbers b) ≤ numbers_room
-enough b r = omega (arith, numbers_long b r, within b r, at_most b r.formed)
-
--- a check that was passed, and one that was not
-passed : {r t : Bool} → r ≡ t → r ≡ true → t ≡ true
-passed e n = sym e ∙ n
-
-failed : {r t : Bool} → r ≡ t → r ≡ false → t ≡ false
-failed e n = sym e ∙ n
-
-pub returns-then-room-ne-NUMBERS_ROOM : goal.returns-then-room-ne-NUMBERS_ROOM
-returns-then-room-ne-NUMBERS_ROOM c =
-    let g = c.args in
-    stopped g.file.now g.room.now g.out.now 2 (other_room g.file.now g.room.now g.out.now c.if-room-ne-NUMBERS_ROOM.true)
 
 pub returns-then-file-gt-LARGEST_FILE : goal.returns-then-file-gt-LARGEST_FILE
 returns-then-file-gt-LARGEST_FILE c =
     let g = c.args in
-    refused_so g.file.now g.room.now g.out.now c.if-room-ne-NUMBERS_ROOM.false 1 (too_large g.file.now g.out.now c.if-file-gt-LARGEST_FILE.true)
+    stopped g.file.now g.room.now g.out.now 1 (too_large g.file.now g.out.now c.if-file-gt-LARGEST_FILE.true)
 
 pub returns-then-out-ne-SLOT_COUNT : goal.returns-then-out-ne-SLOT_COUNT
 returns-then-out-ne-SLOT_COUNT c =
     let g = c.args in
-    refused_so g.file.now g.room.now g.out.now c.if-room-ne-NUMBERS_ROOM.false 2 (no_room g.file.now g.out.now c.if-file-gt-LARGEST_FILE.false c.if-out-ne-SLOT_COUNT.true)
+    stopped g.file.now g.room.now g.out.now 2 (no_room g.file.now g.out.now c.if-file-gt-LARGEST_FILE.false c.if-out-ne-SLOT_COUNT.true)
 
-pub returns-then-not-is_well_formed : goal.returns-then-not-is_well_formed
-returns-then-not-is_well_formed c =
+pub returns-in_default : goal.returns-in_default
+returns-in_default c =
     let g = c.args in
-    refused_so g.file.now g.room.now g.out.now c.if-room-ne-NUMBERS_ROOM.false 9
-    (malformed g.file.now g.out.now c.if-file-gt-LARGEST_FILE.false c.if-out-ne-SLOT_COUNT.false (failed c.is_well_formed.ensures c.if-not-is_well_formed.true))
+    stopped g.file.now g.room.now g.out.now 9 (malformed g.file.now g.out.now c.if-file-gt-LARGEST_FILE.false c.if-out-ne-SLOT_COUNT.false c.in_default.ensures)
 
-pub answer-requires : goal.answer-requires
-answer-requires c =
+pub returns-in_err-sections : goal.returns-in_err-sections
+returns-in_err-sections c =
     let g = c.args in
-    let m = measured g.file.now (passed c.is_well_formed.ensures c.if-not-is_well_formed.false) _ (ap held_of (sym c.in-Planes.is) ∙ c.plane_count.ensures) in
-    record { measured = (m.0, m.1); file_in_bounds = (omega (arith, enough g.file.now m.0, c.if-room-ne-NUMBERS_ROOM.false), c.if-out-ne-SLOT_COUNT.false) }
+    let p = err_from_is_err_and c.from_residual.result c.from_residual.ensures.1 in
+    rw (p.1, p.2) (
+    stopped g.file.now g.room.now g.out.now _
+    (by_sections g.file.now g.out.now c.if-file-gt-LARGEST_FILE.false c.if-out-ne-SLOT_COUNT.false _ c.in-Some.ensures c.in-Some.directory.formed _ c.in_err-sections.ensures))
 
-pub returns-in-Planes : goal.returns-in-Planes
-returns-in-Planes c =
+pub returns : goal.returns
+returns c =
     let g = c.args in
-    let w = passed c.is_well_formed.ensures c.if-not-is_well_formed.false in record {
+    let s = c.in_ok-sections.sections in
+    let e : s.directory.file.now ≡ g.file.now = c.in_ok-sections.ensures.1 ∙ c.in-Some.ensures in
+    record {
       call = c.answer.ensures.0
-          ∙ by_planes g.file.now g.out.now c.if-file-gt-LARGEST_FILE.false c.if-out-ne-SLOT_COUNT.false w _ (ap held_of (sym c.in-Planes.is) ∙ c.plane_count.ensures)
-          ∙ as_asked g.file.now g.room.now g.out.now c.if-room-ne-NUMBERS_ROOM.false;
-      kept = λ n e. c.answer.ensures.1;
+          ∙ by_sections g.file.now g.out.now c.if-file-gt-LARGEST_FILE.false c.if-out-ne-SLOT_COUNT.false _ e s.directory.formed (outcome s.planes) (c.in_ok-sections.ensures.0 ∙ ap sized_planes (sym c.in_ok-sections.ensures.1));
+      kept = λ n f. subst (λ (x : List ℕ). InFront (file_numbers x) c.answer.new.room) e c.answer.ensures.1;
     }
-
-pub returns-in-Refused : goal.returns-in-Refused
-returns-in-Refused c =
-    let g = c.args in
-    let w = passed c.is_well_formed.ensures c.if-not-is_well_formed.false in
-    refused_so g.file.now g.room.now g.out.now c.if-room-ne-NUMBERS_ROOM.false _
-    (by_planes g.file.now g.out.now c.if-file-gt-LARGEST_FILE.false c.if-out-ne-SLOT_COUNT.false w _ (ap held_of (sym c.in-Refused.is) ∙ c.plane_count.ensures))
-
-pub plane_count-requires : goal.plane_count-requires
-plane_count-requires c = passed c.is_well_formed.ensures c.if-not-is_well_formed.false

@@ -1,14 +1,27 @@
 -- `group_calls::combine_group` meets its contract: the size, the lengths and the flags by its tests, the result by what it calls. Assumes nothing.
-use mathlib.Core.Path.{refl, ap, ◌∙◌}
-use mathlib.Core.Bool.{not}
-use native.Mathlib.Nat.{div-add-mod'}
+use mathlib.Core.Path.{◌≡◌, refl, ap, ◌∙◌, sym}
+use mathlib.Core.Bool.{Bool, not}
+use mathlib.Core.List.{List}
+use Prim.Native.Nat.{ℕ, ◌/◌, ◌≤◌}
+use lib.Ieee.{Float}
+use Rattle.number.specs.Records.{record_at, records, records_of}
+use Rattle.group.specs.Group.{all_flagged, combined_with, grouped}
+use Rattle.verdict.specs.declared.bbox.BBox3d.{BBox3d}
+use Rattle.verdict.specs.BBox.{box_of, numbers}
 use native.Mathlib.Omega.{arith}
-use borrow.Author.Rules.{rules}
-use lib.ListN.{length}
+use lib.ListN.{length, drop}
 use Rattle.number.specs.Limits.{box_length}
-use Rattle.verdict.specs.BBox.{numbers}
 use Rattle.group.proofs.Ways.{single, several, empty, long, uneven, no_room, no_flag, written}
 use Rattle.group.proofs.group_calls.combine_group.Goals as goal
+
+-- what the records of a slice come to
+flags : {s : List Float} {l : List Float} {n : ℕ} (z : Bool) → (l ≡ s) × (n ≡ length s / box_length) → z ≡ all_flagged (records box_length n l) → z ≡ all_flagged (records_of box_length s)
+flags z o e = e ∙ (λ t. all_flagged (records box_length (o.1 t) (o.0 t)))
+
+joined : {s l : List Float} {n : ℕ} (b : BBox3d) → (l ≡ s) × (n ≡ length s / box_length) → b ≡ combined_with (box_of (record_at box_length l 0)) (drop 1 (records box_length n l)) → 2 ≤ n
+    → numbers b ≡ grouped (records_of box_length s)
+joined {s} {l} {n} b o e h =
+    ap numbers e ∙ several n l h ∙ (λ t. grouped (records box_length (o.1 t) (o.0 t)))
 
 pub returns-then-boxes-eq0 : goal.returns-then-boxes-eq0
 returns-then-boxes-eq0 c = empty _ _ c.if-boxes-eq0.true
@@ -26,15 +39,18 @@ returns-then-out-ne-BOX_LENGTH c =
 
 pub returns-then-not-all_flagged : goal.returns-then-not-all_flagged
 returns-then-not-all_flagged c =
-    no_flag _ _ c.if-boxes-eq0.false c.if-boxes-gt-MOST_NUMBERS.false c.if-boxes-ne0.false c.if-out-ne-BOX_LENGTH.false _ c.all_flagged.ensures (ap not c.if-not-all_flagged.true)
+    no_flag _ _ c.if-boxes-eq0.false c.if-boxes-gt-MOST_NUMBERS.false c.if-boxes-ne0.false c.if-out-ne-BOX_LENGTH.false _ (flags _ c.of-group.ensures c.all_flagged.ensures) (ap not c.if-not-all_flagged.true)
 
-pub returns-then-count-eq1 : goal.returns-then-count-eq1
-returns-then-count-eq1 c =
+pub returns-then-group-eq1 : goal.returns-then-group-eq1
+returns-then-group-eq1 c =
     let s = c.args.boxes.now in
-    written _ _ c.if-boxes-eq0.false c.if-boxes-gt-MOST_NUMBERS.false c.if-boxes-ne0.false c.if-out-ne-BOX_LENGTH.false _ c.all_flagged.ensures (ap not c.if-not-all_flagged.false) _ _
-    (omega (arith, c.if-count-eq1.true, c.if-boxes-ne0.false, div-add-mod' (length s) box_length)) c.store.ensures (single s c.if-count-eq1.true c.if-boxes-ne0.false)
+    written _ _ c.if-boxes-eq0.false c.if-boxes-gt-MOST_NUMBERS.false c.if-boxes-ne0.false c.if-out-ne-BOX_LENGTH.false _ (flags _ c.of-group.ensures c.all_flagged.ensures) (ap not c.if-not-all_flagged.false) _ _
+    (omega (arith, c.of-group.result.whole, ap length c.of-group.ensures.0, c.if-group-eq1.true)) c.store.ensures (single s (sym c.of-group.ensures.1 ∙ c.if-group-eq1.true) c.if-boxes-ne0.false)
+
+pub combine-requires : goal.combine-requires
+combine-requires c = omega (arith, c.of-group.result.whole, ap length c.of-group.ensures.0, c.if-boxes-eq0.false, c.if-group-eq1.false)
 
 pub returns : goal.returns
 returns c =
-    written _ _ c.if-boxes-eq0.false c.if-boxes-gt-MOST_NUMBERS.false c.if-boxes-ne0.false c.if-out-ne-BOX_LENGTH.false _ c.all_flagged.ensures (ap not c.if-not-all_flagged.false) _ _
-    refl c.store-2.ensures (ap numbers c.combine.ensures ∙ several _ _ (search rules))
+    written _ _ c.if-boxes-eq0.false c.if-boxes-gt-MOST_NUMBERS.false c.if-boxes-ne0.false c.if-out-ne-BOX_LENGTH.false _ (flags _ c.of-group.ensures c.all_flagged.ensures) (ap not c.if-not-all_flagged.false) _ _
+    refl c.store-2.ensures (joined _ c.of-group.ensures c.combine.ensures (omega (arith, c.of-group.result.whole, ap length c.of-group.ensures.0, c.if-boxes-eq0.false, c.if-group-eq1.false)))

@@ -1,49 +1,50 @@
--- `matrix_calls::inverse` meets its contract: the lengths by its tests, the reply by what it calls. Assumes nothing.
+-- `matrix_calls::inverse` meets its contract: the lengths by their tests, the reply by what the inverse came to. Assumes nothing.
+use Rattle.std.specs.Prelude.{None, Option, Some}
 use mathlib.Core.Path.{◌≡◌, refl, sym, ap, ◌∙◌}
 use mathlib.Core.List.{List}
-use borrow.Author.Tests.{eq-eqb, ne_eqb}
-use lib.Ieee.{Float, binary64, of_bits}
+use native.Mathlib.Omega.{arith}
+use lib.Ieee.{Float}
+use Rattle.std.proofs.lemmas.Result.{err_from_is_err_and}
+use Rattle.number.specs.declared.answer.Refusal.TheVariants.{Singular}
 use Rattle.matrix.specs.declared.matrix.Mat4d.{Mat4d}
-use Rattle.matrix.specs.declared.inverse.Inverted.{Inverted}
-use Rattle.matrix.specs.declared.inverse.Inverted.TheVariants.{Matrix}
 use Rattle.matrix.specs.Matrix.{matrix_of}
-use Rattle.matrix.specs.Inverse.{inverse_above, inverse}
+use Rattle.matrix.specs.Inverse.{inverse}
 use Rattle.matrix.specs.MatrixCalls.{inverse_reply, inverse_call}
 use Rattle.number.proofs.Ways.{no_input, no_room, left, written}
-use Rattle.matrix.proofs.Literals.{singular_bits}
-use Rattle.matrix.proofs.Composed.{adjugate_rows, inverse_from}
+use Rattle.matrix.proofs.Given.{was_given, was_refused}
 use Rattle.matrix.proofs.matrix_calls.inverse.Goals as goal
 
--- the reply is that of what was found
-found : (a out : List Float) (m : Mat4d) (v w : Inverted) → m ≡ matrix_of a → v ≡ inverse_above (of_bits binary64 0x3d71_9799_812d_ea11) m → v ≡ w
-    → inverse_reply w out ≡ inverse_reply (inverse (matrix_of a)) out
-found a out m v w p q r =
-    ap (λ (i : Inverted). inverse_reply i out) (sym r ∙ q ∙ ap (λ (e : Float). inverse_above e m) singular_bits ∙ ap inverse p)
-
-pub returns-in_default : goal.returns-in_default
+pub returns-in_err-matrix : goal.returns-in_err-matrix
 unfolding inverse_call
-returns-in_default c =
+returns-in_err-matrix c =
+    let p = err_from_is_err_and c.from_residual.result c.from_residual.ensures.1 in
+    let q = was_refused _ _ _ _ c.given.ensures c.in_err-matrix.was in
+    rw (p.1, p.2, q.1) (no_input _ _ _ _ q.0)
+
+pub returns-then-out-ne-MATRIX_LENGTH : goal.returns-then-out-ne-MATRIX_LENGTH
+unfolding inverse_call
+returns-then-out-ne-MATRIX_LENGTH c =
+    let q = was_given _ _ _ _ c.given.ensures c.in_ok-matrix.was in
+    no_room _ _ _ _ q.0 c.if-out-ne-MATRIX_LENGTH.true
+
+-- the reply is that of what was found
+found : (a out : List Float) (m : Mat4d) (v w : Option Mat4d) → m ≡ matrix_of a → v ≡ inverse m → v ≡ w → inverse_reply w out ≡ inverse_reply (inverse (matrix_of a)) out
+found a out m v w p q r = ap (λ (i : Option Mat4d). inverse_reply i out) (sym r ∙ q ∙ ap inverse p)
+
+pub returns-in_err-ok_or : goal.returns-in_err-ok_or
+unfolding inverse_call
+returns-in_err-ok_or c =
     let args = c.args in
-    found args.m.now args.out.now _ _ _ c.load-matrix.ensures
-    (inverse_from _ _ _ _ _ (adjugate_rows _ _ _ _ _ c.cofactors0.ensures c.cofactors1.ensures c.cofactors2.ensures c.cofactors3.ensures)
-    c.determinant_by-det.ensures c.over.ensures)
-    c.in_default.is
-    ∙ left _ _ _ _ (eq-eqb _ _ c.if-m-ne-MATRIX_LENGTH.false) c.if-out-ne-MATRIX_LENGTH.false
+    let p = err_from_is_err_and c.from_residual-in_err-ok_or.result c.from_residual-in_err-ok_or.ensures.1 in
+    let none : c.inverse.result ≡ None = grind arith in
+    let singular : c.in_err-ok_or.field-0.0 ≡ Singular = grind arith in
+    let q = was_given _ _ _ _ c.given.ensures c.in_ok-matrix.was in
+    rw (p.1, p.2, singular) (found args.m.now args.out.now _ _ None q.1 c.inverse.ensures none ∙ left _ _ _ _ q.0 c.if-out-ne-MATRIX_LENGTH.false)
 
 pub returns : goal.returns
 unfolding inverse_call
 returns c =
     let args = c.args in
-    written _ _ _ _ _ _ (eq-eqb _ _ c.if-m-ne-MATRIX_LENGTH.false) c.if-out-ne-MATRIX_LENGTH.false refl c.store.ensures
-    (found args.m.now args.out.now _ _ (Matrix _) c.load-matrix.ensures
-    (inverse_from _ _ _ _ _ (adjugate_rows _ _ _ _ _ c.cofactors0.ensures c.cofactors1.ensures c.cofactors2.ensures c.cofactors3.ensures)
-    c.determinant_by-det.ensures c.over.ensures)
-    c.in-Matrix.is)
-
-pub returns-then-m-ne-MATRIX_LENGTH : goal.returns-then-m-ne-MATRIX_LENGTH
-unfolding inverse_call
-returns-then-m-ne-MATRIX_LENGTH c = no_input _ _ _ _ (ne_eqb _ _ c.if-m-ne-MATRIX_LENGTH.true)
-
-pub returns-then-out-ne-MATRIX_LENGTH : goal.returns-then-out-ne-MATRIX_LENGTH
-unfolding inverse_call
-returns-then-out-ne-MATRIX_LENGTH c = no_room _ _ _ _ (eq-eqb _ _ c.if-m-ne-MATRIX_LENGTH.false) c.if-out-ne-MATRIX_LENGTH.true
+    let some : c.inverse.result ≡ Some c.in_ok-ok_or.field-0 = grind arith in
+    let q = was_given _ _ _ _ c.given.ensures c.in_ok-matrix.was in
+    written _ _ _ _ _ _ q.0 c.if-out-ne-MATRIX_LENGTH.false refl c.store.ensures (found args.m.now args.out.now _ _ (Some _) q.1 c.inverse.ensures some)

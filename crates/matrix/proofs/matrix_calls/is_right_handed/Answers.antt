@@ -1,16 +1,21 @@
--- `matrix_calls::is_right_handed` meets its contract: the length by its test, the verdict by what it calls. Assumes nothing.
+-- `matrix_calls::is_right_handed` meets its contract: the length by its test, the answer by what it calls. Assumes nothing.
 use mathlib.Core.Path.{ap, ◌∙◌}
-use borrow.Author.Tests.{eq-eqb, ne_eqb}
+use Rattle.std.proofs.lemmas.Result.{err_from_is_err_and}
 use Rattle.matrix.specs.Matrix.{right_handed}
 use Rattle.matrix.specs.MatrixCalls.{right_handed_call}
 use Rattle.number.proofs.Ways.{no_answer, answered}
+use Rattle.matrix.proofs.Given.{was_given, was_refused}
 use Rattle.matrix.proofs.matrix_calls.is_right_handed.Goals as goal
+
+pub returns-in_err-given : goal.returns-in_err-given
+unfolding right_handed_call
+returns-in_err-given c =
+    let p = err_from_is_err_and c.from_residual.result c.from_residual.ensures.1 in
+    let q = was_refused _ _ _ _ c.given.ensures c.in_err-given.was in
+    rw (p.1, p.2, q.1) (no_answer _ _ _ q.0)
 
 pub returns : goal.returns
 unfolding right_handed_call
 returns c =
-    c.of.ensures ∙ answered _ _ _ _ (eq-eqb _ _ c.if-m-ne-MATRIX_LENGTH.false) (c.is_right_handed.ensures ∙ ap right_handed c.load.ensures)
-
-pub returns-then-m-ne-MATRIX_LENGTH : goal.returns-then-m-ne-MATRIX_LENGTH
-unfolding right_handed_call
-returns-then-m-ne-MATRIX_LENGTH c = no_answer _ _ _ (ne_eqb _ _ c.if-m-ne-MATRIX_LENGTH.true)
+    let q = was_given _ _ _ _ c.given.ensures c.in_ok-given.was in
+    answered _ _ _ _ q.0 (c.is_right_handed.ensures ∙ ap right_handed q.1)

@@ -1,27 +1,8 @@
--- `matrix_calls::transform_dir` meets its contract: the lengths by its tests, the result by what it calls. Assumes nothing.
-use mathlib.Core.Path.{refl, ap, ap₂, ◌∙◌}
-use borrow.Author.Tests.{eq-eqb, ne_eqb}
-use Rattle.matrix.specs.Vec.{coordinates}
+-- `matrix_calls::transform_dir` meets its contract, by that of `of_two`. Assumes nothing.
 use Rattle.matrix.specs.Transform.{direction}
 use Rattle.matrix.specs.MatrixCalls.{direction_call}
-use Rattle.number.specs.Answer.{write}
-use Rattle.number.proofs.Ways.{both, no_input, no_room, written}
 use Rattle.matrix.proofs.matrix_calls.transform_dir.Goals as goal
 
 pub returns : goal.returns
 unfolding direction_call
-returns c =
-    written _ _ _ _ _ _ (both (eq-eqb _ _ c.if-m-ne-MATRIX_LENGTH.false) (eq-eqb _ _ c.if-v-ne-POINT_LENGTH.false)) c.if-out-ne-POINT_LENGTH.false refl c.store.ensures
-    (ap write (ap coordinates (c.transform_dir.ensures ∙ ap₂ direction c.load.ensures c.load-2.ensures)))
-
-pub returns-then-m-ne-MATRIX_LENGTH : goal.returns-then-m-ne-MATRIX_LENGTH
-unfolding direction_call
-returns-then-m-ne-MATRIX_LENGTH c = no_input _ _ _ _ (both (ne_eqb _ _ c.if-m-ne-MATRIX_LENGTH.true) refl)
-
-pub returns-then-v-ne-POINT_LENGTH : goal.returns-then-v-ne-POINT_LENGTH
-unfolding direction_call
-returns-then-v-ne-POINT_LENGTH c = no_input _ _ _ _ (both (eq-eqb _ _ c.if-m-ne-MATRIX_LENGTH.false) (ne_eqb _ _ c.if-v-ne-POINT_LENGTH.true))
-
-pub returns-then-out-ne-POINT_LENGTH : goal.returns-then-out-ne-POINT_LENGTH
-unfolding direction_call
-returns-then-out-ne-POINT_LENGTH c = no_room _ _ _ _ (both (eq-eqb _ _ c.if-m-ne-MATRIX_LENGTH.false) (eq-eqb _ _ c.if-v-ne-POINT_LENGTH.false)) c.if-out-ne-POINT_LENGTH.true
+returns c = c.of_two.ensures direction (λ x y r p. p)

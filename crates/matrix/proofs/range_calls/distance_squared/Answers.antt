@@ -1,20 +1,30 @@
--- `range_calls::distance_squared` meets its contract: the lengths by its tests, the number by what it calls. Assumes nothing.
+-- `range_calls::distance_squared` meets its contract: the lengths by their tests, the number by what it calls. Assumes nothing.
 use mathlib.Core.Path.{refl, ap₂, ◌∙◌}
-use borrow.Author.Tests.{eq-eqb, ne_eqb}
+use Rattle.std.proofs.lemmas.Result.{err_from_is_err_and}
 use Rattle.matrix.specs.Range.{distance_squared}
 use Rattle.matrix.specs.RangeCalls.{distance_squared_call}
 use Rattle.number.proofs.Ways.{both, no_answer, answered}
+use Rattle.matrix.proofs.Given.{was_given, was_refused}
 use Rattle.matrix.proofs.range_calls.distance_squared.Goals as goal
+
+pub returns-in_err-given : goal.returns-in_err-given
+unfolding distance_squared_call
+returns-in_err-given c =
+    let p = err_from_is_err_and c.from_residual.result c.from_residual.ensures.1 in
+    let q = was_refused _ _ _ _ c.given.ensures c.in_err-given.was in
+    rw (p.1, p.2, q.1) (no_answer _ _ _ (both q.0 refl))
+
+pub returns-in_err-given-2 : goal.returns-in_err-given-2
+unfolding distance_squared_call
+returns-in_err-given-2 c =
+    let p = err_from_is_err_and c.from_residual-in_err-given-2.result c.from_residual-in_err-given-2.ensures.1 in
+    let q = was_given _ _ _ _ c.given.ensures c.in_ok-given.was in
+    let r = was_refused _ _ _ _ c.given-2.ensures c.in_err-given-2.was in
+    rw (p.1, p.2, r.1) (no_answer _ _ _ (both q.0 r.0))
 
 pub returns : goal.returns
 unfolding distance_squared_call
 returns c =
-    answered _ _ _ _ (both (eq-eqb _ _ c.if-range-ne-RANGE_LENGTH.false) (eq-eqb _ _ c.if-p-ne-POINT_LENGTH.false)) (c.distance_squared.ensures ∙ ap₂ distance_squared c.load.ensures c.load-2.ensures)
-
-pub returns-then-range-ne-RANGE_LENGTH : goal.returns-then-range-ne-RANGE_LENGTH
-unfolding distance_squared_call
-returns-then-range-ne-RANGE_LENGTH c = no_answer _ _ _ (both (ne_eqb _ _ c.if-range-ne-RANGE_LENGTH.true) refl)
-
-pub returns-then-p-ne-POINT_LENGTH : goal.returns-then-p-ne-POINT_LENGTH
-unfolding distance_squared_call
-returns-then-p-ne-POINT_LENGTH c = no_answer _ _ _ (both (eq-eqb _ _ c.if-range-ne-RANGE_LENGTH.false) (ne_eqb _ _ c.if-p-ne-POINT_LENGTH.true))
+    let q = was_given _ _ _ _ c.given.ensures c.in_ok-given.was in
+    let r = was_given _ _ _ _ c.given-2.ensures c.in_ok-given-2.was in
+    answered _ _ _ _ (both q.0 r.0) (c.distance_squared.ensures ∙ ap₂ distance_squared q.1 r.1)

@@ -1,13 +1,6 @@
--- `number::bytes::word_32` meets its contract by where the bytes end. Assumes nothing.
-use Rattle.std.proofs.Common.{◌∙◌, arith}
-use Rattle.number.proofs.Words.{is_there, not_there}
+-- `number::bytes::word_32` meets its contract: the bytes are in their places. Assumes nothing.
+use Rattle.number.proofs.Words.{read}
 use Rattle.number.proofs.bytes.word_32.Goals as goal
 
-pub returns-then-bytes-lt4 : goal.returns-then-bytes-lt4
-returns-then-bytes-lt4 c = let given = c.args in not_there given.bytes.now given.at 4 (omega arith)
-
-pub returns-then-bytes-at : goal.returns-then-bytes-at
-returns-then-bytes-at c = let given = c.args in not_there given.bytes.now given.at 4 (omega arith)
-
 pub returns : goal.returns
-returns c = let given = c.args in c.half_word.ensures.0 ∙ is_there given.bytes.now given.at 4 (omega arith)
+returns c = read c.args.bytes.now c.args.at 3 c.map_or.result c.bytes_at.result c.bytes_at.ensures c.map_or.ensures

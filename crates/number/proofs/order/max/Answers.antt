@@ -1,24 +1,24 @@
 -- `number::order::max` meets its contract: `proofs/Extremes.antt` and `proofs/JoinedBits.antt` have the laws. Assumes nothing.
-use Rattle.std.proofs.Common.{true, false, rules}
-use Rattle.number.proofs.Nan.{number}
-use Rattle.number.proofs.Extremes.{equal_numbers, max_from}
+use Rattle.std.proofs.Common.{◌≡◌, Bool, true, false, not, T, sym, refl, ap, ◌∙◌, subst, rules}
+use lib.Bits.{bit_and}
+use lib.Ieee.{binary64, eq, nan_bits, to_bits, of_bits}
+use Rattle.number.specs.Arithmetic.{max_of}
+use Rattle.number.proofs.Extremes.{max_from}
 use Rattle.number.proofs.JoinedBits.{max_joined, max_joined_number}
 use Rattle.number.proofs.order.max.Goals as goal
 
-pub returns-then-x-y : goal.returns-then-x-y
-returns-then-x-y c = let a = c.args in max_joined a.x a.y (search rules) (search rules) c.if-x-y.true
-
-pub float_to_bits-result : goal.float_to_bits-result
-float_to_bits-result c = let a = c.args in number a.x (equal_numbers a.x a.y c.if-x-y.true).0
-
-pub float_to_bits-result-then-x-y : goal.float_to_bits-result-then-x-y
-float_to_bits-result-then-x-y c = let a = c.args in number a.y (equal_numbers a.x a.y c.if-x-y.true).1
-
-pub float_from_bits-result : goal.float_from_bits-result
-float_from_bits-result c = let a = c.args in max_joined_number a.x a.y (search rules) (search rules) c.if-x-y.true
-
-pub returns-then-first-y : goal.returns-then-first-y
-returns-then-first-y c = max_from _ _ _ true c.if-x-y.false c.number_or-first.ensures c.if-first-y.true
+pub chosen-requires-clause-number : goal.chosen-requires-clause-number
+chosen-requires-clause-number c = λ bits e p.
+    let a = c.args in
+    let q : bits ≡ bit_and (to_bits binary64 a.x) (to_bits binary64 a.y) = search rules in
+    subst (λ (b : _). T (not (nan_bits binary64 b))) (sym q) (max_joined_number a.x a.y (search rules) (search rules) e)
 
 pub returns : goal.returns
-returns c = max_from _ _ _ false c.if-x-y.false c.number_or-first.ensures c.if-first-y.false
+returns c = go (eq c.args.x c.args.y) refl
+  where
+    go : (b : Bool) → eq c.args.x c.args.y ≡ b → c.chosen.result ≡ max_of c.args.x c.args.y
+    go true e =
+        let (bits, p, r) = c.chosen.ensures.equal e in
+        let q : bits ≡ bit_and (to_bits binary64 c.args.x) (to_bits binary64 c.args.y) = search rules in
+        r ∙ ap (of_bits binary64) q ∙ max_joined c.args.x c.args.y (search rules) (search rules) e
+    go false e = c.chosen.ensures.other e ∙ max_from c.args.x c.args.y _ e refl

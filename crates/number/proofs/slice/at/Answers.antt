@@ -1,9 +1,9 @@
--- `number::slice::at` meets its contract: past the end `get_or` gives its default. Assumes nothing.
-use Rattle.std.proofs.Common.{sym, ◌∙◌}
-use lib.ListN.{get_or-eq_default}
-use lib.Ieee.{nan}
-use Rattle.number.proofs.Nan.{zero_by_zero}
+-- `number::slice::at` meets its contract: past the end is the constant. Assumes nothing.
+use Rattle.std.proofs.Common.{arith}
+use Rattle.std.proofs.lemmas.Grind.{common_steps}
+use Rattle.std.proofs.lemmas.Option.{gets}
+use Rattle.number.proofs.Nan.{nan_constant}
 use Rattle.number.proofs.slice.at.Goals as goal
 
 pub returns : goal.returns
-returns c = zero_by_zero ∙ sym (get_or-eq_default c.args.s.now nan c.if-i-s.false)
+returns c = let e = nan_constant in let g = c.get.ensures.lookup in grind (arith, common_steps, gets)

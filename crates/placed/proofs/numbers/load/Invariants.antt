@@ -1,14 +1,9 @@
 -- `load` meets its contract: the numbers are whole or nothing is stored, and what was stored so far are so many of them. Assumes nothing.
 use mathlib.Core.Path.{◌≡◌}
-use Prim.Native.Nat.{◌-◌, ◌≤◌}
 use lib.ListN.{length, take}
 use lib.Seq.{paste}
 use Rattle.placed.specs.Numbers.{whole_numbers}
 use Rattle.placed.proofs.numbers.load.Given as goal
 
 abbrev pub invariant-loop-i : goal.invariant-loop-i
-invariant-loop-i l =
-    (l.i ≤ length l.initial.out) × (l.out ≡ paste l.initial.out 0 (whole_numbers (take (length l.initial.out) l.from)) l.i) × (length l.out ≡ length l.initial.out)
-
-abbrev pub decreases-loop-i : goal.decreases-loop-i
-decreases-loop-i l = length l.initial.out - l.i
+invariant-loop-i l = l.out ≡ paste l.initial.out 0 (whole_numbers (take (length l.initial.out) l.from)) l.i

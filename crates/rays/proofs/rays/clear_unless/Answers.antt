@@ -1,42 +1,34 @@
--- `rays::clear_unless` meets its contract: by its test, and five zeros one behind another. Assumes nothing.
+-- `rays::clear_unless` meets its contract: by its test, and five zeros in the place of five numbers. Assumes nothing.
 use mathlib.Core.Path.{◌≡◌, sym, ap, ◌∙◌}
-use mathlib.Core.Bool.{Bool, true, false, cond}
-use mathlib.Core.List.{List, [], ◌∷◌, ◌++◌}
-use Prim.Native.Nat.{◌+◌}
+use mathlib.Core.Bool.{Bool, false, cond}
+use mathlib.Core.List.{List, ◌++◌, append_assoc}
+use Prim.Native.Nat.{ℕ, ◌+◌, ◌-◌, ◌≤◌}
 use native.Mathlib.Omega.{arith}
-use borrow.Author.Tests.{eq-eqb, ne_eqb}
-use lib.ListN.{length-set, take, drop}
-use lib.Ieee.{Float, binary64, of_bits}
+use borrow.Author.Tests.{ne_eqb}
+use borrow.Rule.Slice.PartMut.{put_mid, Post-is}
+use lib.ListN.{length, length-drop, take, drop, replicate}
+use lib.Seq.{length-take-le}
+use lib.Ieee.{Float}
 use Rattle.number.specs.Limits.{hit_length}
 use Rattle.matrix.proofs.Literals.{zero_bits}
-use Rattle.rays.proofs.Five.{two_length, three_length, four_length, five}
 use Rattle.rays.proofs.rays.clear_unless.Goals as goal
 
-abbrev zero : Float
-zero = of_bits binary64 0
+filled : (out v : List Float) (from : ℕ) (z : Float) → from + hit_length ≤ length out → v ≡ replicate (length (take (from + hit_length - from) (drop from out))) z
+    → put_mid from (from + hit_length - from) out v ≡ take from out ++ replicate hit_length z ++ drop (from + hit_length) out
+filled out v from z h e =
+    let k : from + hit_length - from ≡ hit_length = omega arith in
+    let n : length (take (from + hit_length - from) (drop from out)) ≡ hit_length =
+    length-take-le (from + hit_length - from) (drop from out) (omega (arith, length-drop from out)) ∙ k in
+    ap (λ (l : List Float). take from out ++ (v ++ l)) (Post-is from (from + hit_length) out (omega arith))
+    ∙ sym (append_assoc (take from out) v (drop (from + hit_length) out))
+    ∙ ap (λ (l : List Float). take from out ++ l ++ drop (from + hit_length) out) (e ∙ ap (λ (m : ℕ). replicate m z) n)
 
-chosen : (b t : Bool) (x y : List Float) → b ≡ t → cond t x y ≡ cond b x y
-chosen b t x y e = ap (λ (z : Bool). cond z x y) (sym e)
+chosen : (b : Bool) (x y : List Float) → b ≡ false → y ≡ cond b x y
+chosen b x y e = ap (λ (z : Bool). cond z x y) (sym e)
 
-pub returns-then-slot-eq0 : goal.returns-then-slot-eq0
-returns-then-slot-eq0 c = let a = c.args in chosen _ true a.out.now _ (eq-eqb _ _ c.if-slot-eq0.true)
-
-pub bounds-out-from-2 : goal.bounds-out-from-2
-bounds-out-from-2 c = let a = c.args in omega (arith, c.requires, length-set a.out.now a.from zero)
-
-pub bounds-out-from-3 : goal.bounds-out-from-3
-bounds-out-from-3 c = let a = c.args in omega (arith, c.requires, two_length a.out.now a.from zero zero zero zero zero)
-
-pub bounds-out-from-4 : goal.bounds-out-from-4
-bounds-out-from-4 c = let a = c.args in omega (arith, c.requires, three_length a.out.now a.from zero zero zero zero zero)
-
-pub bounds-out-from-5 : goal.bounds-out-from-5
-bounds-out-from-5 c = let a = c.args in omega (arith, c.requires, four_length a.out.now a.from zero zero zero zero zero)
-
-pub returns : goal.returns
-returns c =
+pub returns-then-slot-ne0 : goal.returns-then-slot-ne0
+returns-then-slot-ne0 c =
     let a = c.args in
-    let out = a.out.now in
-    five out a.from zero zero zero zero zero c.requires
-    ∙ (λ t. take a.from out ++ (zero_bits t ∷ zero_bits t ∷ zero_bits t ∷ zero_bits t ∷ zero_bits t ∷ []) ++ drop (a.from + hit_length) out)
-    ∙ chosen _ false out _ (ne_eqb _ _ c.if-slot-eq0.false)
+    filled a.out.now _ a.from _ c.requires (c.fill.ensures.after (λ y e. e))
+    ∙ ap (λ (z : Float). take a.from a.out.now ++ replicate hit_length z ++ drop (a.from + hit_length) a.out.now) zero_bits
+    ∙ chosen _ a.out.now _ (ne_eqb _ _ c.if-slot-ne0.true)

@@ -19,35 +19,28 @@ answered : (r : Ray) (t : Triangle) → hit_in (meeting_of r t) ≡ hit_of r t
 unfolding hit_of
 answered r t = refl
 
-pub loop-i-init : goal.loop-i-init
-loop-i-init c = (omega arith, refl, refl, refl, refl)
-
 pub loop-i-preserved : goal.loop-i-preserved
 loop-i-preserved c =
     let l = c.loop-i in
     let a = c.args in
     let f = hit_on a.triangle in
     let n = length a.status.now in
-    let hit = c.met_by-hit.result in
+    let m = c.met_by-meeting.result in
     let k = c.hit_status.result in
-    let h = ap hit_in c.met_by-hit.ensures ∙ answered _ _ ∙ ap (λ (r : Ray). hit_of r a.triangle) c.ray_at.ensures in
+    let h = ap hit_in c.met_by-meeting.ensures ∙ answered _ _ ∙ ap (λ (r : Ray). hit_of r a.triangle) c.ray_at.ensures in
     let many = length-set l.status l.i k in
-    let fits : l.i * hit_length + hit_length ≤ length l.out = omega (arith, c.requires.1, l.invariant.1, l.invariant.2) in (
-      omega (arith, many),
-      many ∙ l.invariant.1,
-      ap length c.store_hit.ensures ∙ stored_length f n a.s.now l.out l.i hit fits ∙ l.invariant.2,
+    let fits : l.i * hit_length + hit_length ≤ length l.out = omega (arith, c.requires.1, l.invariant.0, l.invariant.1) in (
+      many ∙ l.invariant.0,
+      ap length c.store_hit.ensures ∙ stored_length f n a.s.now l.out l.i m fits ∙ l.invariant.1,
       ap (λ (v : List Float). all_numbers_lem f n a.s.now (set l.status l.i k) v (l.i + 1)) c.store_hit.ensures
-          ∙ number_passed f n a.s.now l.status l.i k hit (omega arith) (omega (arith, l.invariant.1)) c.hit_status.ensures h l.out fits ∙ l.invariant.3,
-      slot_passed f n a.s.now l.status l.i k hit (omega arith) (omega (arith, l.invariant.1)) c.hit_status.ensures h ∙ l.invariant.4,
+          ∙ number_passed f n a.s.now l.status l.i k m (omega arith) (omega (arith, l.invariant.0)) c.hit_status.ensures h l.out fits ∙ l.invariant.2,
+      slot_passed f n a.s.now l.status l.i k m (omega arith) (omega (arith, l.invariant.0)) c.hit_status.ensures h ∙ l.invariant.3,
     )
 
 pub store_hit-requires : goal.store_hit-requires
 store_hit-requires c =
     let l = c.loop-i in
-    omega (arith, c.requires.1, l.invariant.1, l.invariant.2)
-
-pub loop-i-smaller : goal.loop-i-smaller
-loop-i-smaller c = let l = c.loop-i in omega (arith, l.invariant.1)
+    omega (arith, c.requires.1, l.invariant.0, l.invariant.1)
 
 pub returns : goal.returns
 returns c =
@@ -55,18 +48,9 @@ returns c =
     let a = c.args in
     let f = hit_on a.triangle in
     let n = length a.status.now in (
-      numbers_passed f n a.s.now l.status l.out l.i l.invariant.1 (l.invariant.2 ∙ c.requires.1) (omega (arith, l.invariant.1)) ∙ l.invariant.3,
-      slots_passed f n a.s.now l.status l.i l.invariant.1 (omega (arith, l.invariant.1)) ∙ l.invariant.4
+      numbers_passed f n a.s.now l.status l.out l.i l.invariant.0 (l.invariant.1 ∙ c.requires.1) (omega (arith, l.invariant.0)) ∙ l.invariant.2,
+      slots_passed f n a.s.now l.status l.i l.invariant.0 (omega (arith, l.invariant.0)) ∙ l.invariant.3
           ∙ sym (map-map (λ h. (landed h).status) f (records ray_length n a.s.now)),
-      l.invariant.2,
       l.invariant.1,
+      l.invariant.0,
     )
-
-pub ray_at-requires : goal.ray_at-requires
-ray_at-requires c = omega (arith, c.requires.0, c.loop-i.invariant.1)
-
-pub shape_of-out : goal.shape_of-out
-shape_of-out c = c.loop-i.invariant.2
-
-pub shape_of-status : goal.shape_of-status
-shape_of-status c = c.loop-i.invariant.1

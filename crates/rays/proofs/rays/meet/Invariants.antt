@@ -1,7 +1,6 @@
 -- `rays::meet` meets its contract: what is filled in front and the rays left decide. Assumes nothing.
 use mathlib.Core.Path.{◌≡◌}
 use mathlib.Core.List.{map}
-use Prim.Native.Nat.{◌-◌, ◌≤◌}
 use lib.ListN.{length}
 use Rattle.number.specs.Limits.{ray_length}
 use Rattle.number.specs.Records.{records}
@@ -12,9 +11,6 @@ use Rattle.rays.proofs.rays.meet.Given as goal
 
 abbrev pub invariant-loop-i : goal.invariant-loop-i
 invariant-loop-i l =
-    (l.i ≤ length l.status) × (length l.status ≡ length l.initial.status) × (length l.out ≡ length l.initial.out)
+    (length l.status ≡ length l.initial.status) × (length l.out ≡ length l.initial.out)
     × (all_numbers_lem (hit_on l.triangle) (length l.initial.status) l.s l.status l.out l.i ≡ hit_numbers (hits_on l.triangle (records ray_length (length l.initial.status) l.s)))
     × (all_slots (hit_on l.triangle) (length l.initial.status) l.s l.status l.i ≡ map (λ r. (landed (hit_on l.triangle r)).status) (records ray_length (length l.initial.status) l.s))
-
-abbrev pub decreases-loop-i : goal.decreases-loop-i
-decreases-loop-i l = length l.initial.status - l.i

@@ -1,5 +1,5 @@
 -- `clip::intersects_view_volume` meets its contract: the bounds are those that the corners passed are inside of. Assumes nothing.
-use Rattle.std.proofs.Common.{◌≡◌, ℕ, ◌+◌, Bool, sym, refl, ap, ◌∙◌, ap₂, add-one, arith}
+use Rattle.std.proofs.Common.{◌≡◌, ℕ, ◌+◌, Bool, false, sym, ap, ◌∙◌, ap₂, add-one, arith}
 use Rattle.number.specs.Every.{every_below, some_below}
 use Rattle.matrix.specs.Matrix.{product}
 use Rattle.matrix.specs.declared.vec.Vec4d.{Vec4d}
@@ -21,15 +21,18 @@ all_passed b m n i s x h q p e = e ∙ ap all_sides (p ∙ ap₂ (passed_of b.ra
 
 pub loop-i-init : goal.loop-i-init
 unfolding passed_of some_below
-loop-i-init c = (omega arith, refl)
+loop-i-init c =
+    let e = c.default-sides.ensures in
+    let near : c.default-sides.result.near ≡ false = e.1.1.1.1.1 in
+    λ t. record { right = e.0 t; left = e.1.0 t; top = e.1.1.0 t; bottom = e.1.1.1.0 t; far = e.1.1.1.1.0 t; near = near t }
 
 pub loop-i-preserved : goal.loop-i-preserved
 loop-i-preserved c =
     let l = c.loop-i in
-    (omega arith, next _ _ l.i l.sides _ _ l.invariant.1 c.corner_under.ensures c.passed_by-sides.ensures)
+    next _ _ l.i l.sides _ _ l.invariant c.corner_under.ensures c.passed_by-sides.ensures
 
 pub returns : goal.returns
 returns c =
     let l = c.loop-i in
     let a = c.args in
-    all_passed a.b a.m _ l.i l.sides _ (omega arith) c.product-to_clip.ensures l.invariant.1 c.all.ensures
+    all_passed a.b a.m _ l.i l.sides _ (omega arith) c.product-to_clip.ensures l.invariant c.all.ensures

@@ -35,7 +35,7 @@ load-requires c = eqb-true _ _ (both_hold _ _ c.if-not-b-m.false).0
 pub returns : goal.returns
 returns c =
     let a = c.args in
-    c.of.ensures ∙ ap outcome (c.intersects_view_volume.ensures ∙ ap₂ box_in_view_volume c.load.ensures c.load-2.ensures)
+    ap outcome (c.intersects_view_volume.ensures ∙ ap₂ box_in_view_volume c.load.ensures c.load-2.ensures)
     ∙ by_tests _ _ _ _ _ (two_inputs box_length a.b.now matrix_length a.m.now ∙ c.if-not-b-m.false) refl
     (is_flag_lem a.b.now _ _ c.at.ensures c.is_flag.ensures (ap not c.if-not-is_flag.false))
     (sym (next_record _ c.all_finite.ensures _ (last_record _ c.all_finite-2.ensures)) ∙ c.if-not-all_finite.false)

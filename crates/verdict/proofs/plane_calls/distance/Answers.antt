@@ -1,21 +1,30 @@
--- `plane_calls::distance` meets its contract: the lengths by its tests, the result by what it calls. Assumes nothing.
-use Rattle.std.proofs.Common.{refl, ◌∙◌, ap₂, eq-eqb, ne_eqb}
+-- `plane_calls::distance` meets its contract: the lengths by their tests, the answer by what it calls. Assumes nothing.
+use mathlib.Core.Path.{refl, ap₂, ◌∙◌}
+use Rattle.std.proofs.lemmas.Result.{err_from_is_err_and}
 use Rattle.verdict.specs.Plane.{distance_to}
 use Rattle.verdict.specs.PlaneCalls.{distance_call}
 use Rattle.number.proofs.Ways.{both, no_answer, answered}
+use Rattle.matrix.proofs.Given.{was_given, was_refused}
 use Rattle.verdict.proofs.plane_calls.distance.Goals as goal
 
-pub returns-then-plane-ne-PLANE_LENGTH : goal.returns-then-plane-ne-PLANE_LENGTH
+pub returns-in_err-given : goal.returns-in_err-given
 unfolding distance_call
-returns-then-plane-ne-PLANE_LENGTH c = no_answer _ _ _ (both (ne_eqb _ _ c.if-plane-ne-PLANE_LENGTH.true) refl)
+returns-in_err-given c =
+    let p = err_from_is_err_and c.from_residual.result c.from_residual.ensures.1 in
+    let q = was_refused _ _ _ _ c.given.ensures c.in_err-given.was in
+    rw (p.1, p.2, q.1) (no_answer _ _ _ (both q.0 refl))
 
-pub returns-then-p-ne-POINT_LENGTH : goal.returns-then-p-ne-POINT_LENGTH
+pub returns-in_err-given-2 : goal.returns-in_err-given-2
 unfolding distance_call
-returns-then-p-ne-POINT_LENGTH c = no_answer _ _ _ (both (eq-eqb _ _ c.if-plane-ne-PLANE_LENGTH.false) (ne_eqb _ _ c.if-p-ne-POINT_LENGTH.true))
+returns-in_err-given-2 c =
+    let p = err_from_is_err_and c.from_residual-in_err-given-2.result c.from_residual-in_err-given-2.ensures.1 in
+    let q = was_given _ _ _ _ c.given.ensures c.in_ok-given.was in
+    let r = was_refused _ _ _ _ c.given-2.ensures c.in_err-given-2.was in
+    rw (p.1, p.2, r.1) (no_answer _ _ _ (both q.0 r.0))
 
 pub returns : goal.returns
 unfolding distance_call
 returns c =
-    answered _ _ _ _
-    (both (eq-eqb _ _ c.if-plane-ne-PLANE_LENGTH.false) (eq-eqb _ _ c.if-p-ne-POINT_LENGTH.false))
-    (c.distance.ensures ∙ ap₂ distance_to c.load.ensures c.load-2.ensures)
+    let q = was_given _ _ _ _ c.given.ensures c.in_ok-given.was in
+    let r = was_given _ _ _ _ c.given-2.ensures c.in_ok-given-2.was in
+    answered _ _ _ _ (both q.0 r.0) (c.distance.ensures ∙ ap₂ distance_to q.1 r.1)

@@ -32,10 +32,10 @@ module _ (b : List ℕ) (out : List Float) where
     unfolding volume_sent
     by_call r v p e f g = passes _ _ _ r (eq-eqb _ _ h) (g ∙ ap₂ (λ (x y : List Float). from_matrices_call x y out) (matrix 0 v (omega arith) e) (matrix 128 p (omega arith) f))
 
-pub returns-then-file : goal.returns-then-file
-returns-then-file c = let g = c.args in other_length g.file.now g.out.now c.if-file.true
+pub returns-then-file-ne-MATRICES_SIZE : goal.returns-then-file-ne-MATRICES_SIZE
+returns-then-file-ne-MATRICES_SIZE c = let g = c.args in other_length g.file.now g.out.now c.if-file-ne-MATRICES_SIZE.true
 
 pub returns : goal.returns
 returns c =
     let g = c.args in
-    by_call g.file.now g.out.now c.if-file.false _ _ _ c.load.ensures c.load-2.ensures c.from_view_and_projection.ensures
+    by_call g.file.now g.out.now c.if-file-ne-MATRICES_SIZE.false _ _ _ c.load.ensures c.load-2.ensures c.from_view_and_projection.ensures

@@ -4,6 +4,8 @@ use mathlib.Core.Bool.{Bool, true, false}
 use mathlib.Core.List.{List, [], ◌∷◌, ◌++◌, flat_map}
 use lib.IntN.{pos}
 use lib.Ieee.{Float, neg, binary64, of_bits, of_int}
+use lib.ListN.{replicate}
+use Rattle.number.specs.Slice.{stored_at}
 use Rattle.number.specs.Tabulate.{tabulate}
 use Rattle.matrix.specs.Constants.{one}
 use Rattle.matrix.specs.Matrix.{transpose}
@@ -24,6 +26,13 @@ unit = of_bits binary64 0x3ff0_0000_0000_0000
 abbrev row : (l r b t n f : Plane) (p q u v : Ray) → List Float
 row l r b t n f p q u v =
     of_int binary64 (pos 6) ∷ flat_map plane_numbers (l ∷ r ∷ b ∷ t ∷ n ∷ f ∷ []) ++ flat_map ray_numbers (p ∷ q ∷ u ∷ v ∷ [])
+
+-- stored one behind another
+assembled : (l r b t n f : Plane) (p q u v : Ray) (planes rays before all : List Float) (x : Float) → x ≡ of_int binary64 (pos 6) → planes ≡ flat_map plane_numbers (l ∷ r ∷ b ∷ t ∷ n ∷ f ∷ []) → rays ≡ flat_map ray_numbers (p ∷ q ∷ u ∷ v ∷ [])
+    → before ≡ stored_at planes 1 (replicate 49 x) → all ≡ stored_at rays 25 before → all ≡ row l r b t n f p q u v
+unfolding flat_map
+assembled l r b t n f p q u v planes rays before all x e g h j k =
+    k ∙ (λ s. stored_at (h s) 25 (j s)) ∙ (λ s. stored_at (flat_map ray_numbers (p ∷ q ∷ u ∷ v ∷ [])) 25 (stored_at (g s) 1 (replicate 49 (e s))))
 
 module _ (m i : Mat4d) where
   listed : {l r b t n f : Plane} {p q u v : Ray} → l ≡ clip_plane m 0 → r ≡ clip_plane m 1 → b ≡ clip_plane m 2 → t ≡ clip_plane m 3 → n ≡ clip_plane m 4 → f ≡ clip_plane m 5
@@ -47,7 +56,12 @@ returns c =
     let a = c.args in
     let by = of_columns a.matrix a.inverse _ c.transpose-columns.ensures in
     let at = of_signs a.matrix a.inverse in
-    listed a.matrix a.inverse (by false (λ m. m.r0) _ c.at_least-left.ensures) (by true (λ m. m.r0) _ c.at_most-right.ensures)
+    assembled c.at_least-left.result c.at_most-right.result c.at_least-bottom.result c.at_most-top.result c.at_least-near.result c.at_most-far.result
+    c.edge-left_bottom.result c.edge-left_top.result c.edge-right_top.result c.edge-right_bottom.result _ _ _ _ _ c.from-all.ensures
+    (c.as_flattened.ensures.value ∙ (λ s. c.numbers.ensures s ++ (c.numbers-2.ensures s ++ (c.numbers-3.ensures s ++ (c.numbers-4.ensures s ++ (c.numbers-5.ensures s ++ (c.numbers-6.ensures s ++ [])))))))
+    (c.as_flattened-2.ensures.value ∙ (λ s. c.numbers-7.ensures s ++ (c.numbers-8.ensures s ++ (c.numbers-9.ensures s ++ (c.numbers-10.ensures s ++ [])))))
+    c.store_at.ensures c.store_at-2.ensures
+    ∙ listed a.matrix a.inverse (by false (λ m. m.r0) _ c.at_least-left.ensures) (by true (λ m. m.r0) _ c.at_most-right.ensures)
     (by false (λ m. m.r1) _ c.at_least-bottom.ensures) (by true (λ m. m.r1) _ c.at_most-top.ensures) (by false (λ m. m.r2) _ c.at_least-near.ensures)
     (by true (λ m. m.r2) _ c.at_most-far.ensures) (at neg neg _ c.edge-left_bottom.ensures) (at neg same _ c.edge-left_top.ensures) (at same same _ c.edge-right_top.ensures)
     (at same neg _ c.edge-right_bottom.ensures)

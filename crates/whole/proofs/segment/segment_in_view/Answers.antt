@@ -16,57 +16,56 @@ use Rattle.whole.proofs.segment.segment_in_view.Goals as goal
 
 pub loop-i-init : goal.loop-i-init
 loop-i-init c =
-    let v = c.args.view.now in
-    let n = c.args.count in
+    let v = c.args.view.now.numbers.now in
+    let n = c.args.view.now.count in
     let A = point_of c.args.p0.now in
     let B = point_of c.args.p1.now in (
-      omega arith,
       record { start = record { top = lit≤ tt; bottom = lit≤ tt }; end = record { top = lit≤ tt; bottom = lit≤ tt } },
-      (grid_parts (planes_of v n) A B c.requires.3).2,
+      (grid_parts (planes_of v n) A B c.requires).2,
       from_the_ends (planes_of v n) A B,
     )
 
 pub gap-first-requires : goal.gap-first-requires
 gap-first-requires c =
     let l = c.loop-i in
-    let v = c.args.view.now in
-    let next = next_plane (plane_at v) c.args.count l.i _ (omega arith) refl in
-    (omega arith, c.requires.1, (each_holds plane_within _ _ _ next l.invariant.2).0, (grid_parts (planes_of v c.args.count) (point_of c.args.p0.now) (point_of c.args.p1.now) c.requires.3).0)
+    let v = c.args.view.now.numbers.now in
+    let next = next_plane (plane_at v) c.args.view.now.count l.i _ (omega arith) refl in
+    (omega arith, (each_holds plane_within _ _ _ next l.invariant.1).0, (grid_parts (planes_of v c.args.view.now.count) (point_of c.args.p0.now) (point_of c.args.p1.now) c.requires).0)
 
 pub gap-second-requires : goal.gap-second-requires
 gap-second-requires c =
     let l = c.loop-i in
-    let v = c.args.view.now in
-    let next = next_plane (plane_at v) c.args.count l.i _ (omega arith) refl in
-    (omega arith, c.requires.2, (each_holds plane_within _ _ _ next l.invariant.2).0, (grid_parts (planes_of v c.args.count) (point_of c.args.p0.now) (point_of c.args.p1.now) c.requires.3).1)
+    let v = c.args.view.now.numbers.now in
+    let next = next_plane (plane_at v) c.args.view.now.count l.i _ (omega arith) refl in
+    (omega arith, (each_holds plane_within _ _ _ next l.invariant.1).0, (grid_parts (planes_of v c.args.view.now.count) (point_of c.args.p0.now) (point_of c.args.p1.now) c.requires).1)
 
 pub returns-then-not-in_front : goal.returns-then-not-in_front
 returns-then-not-in_front c =
     let l = c.loop-i in
-    let v = c.args.view.now in
+    let v = c.args.view.now.numbers.now in
     let A = point_of c.args.p0.now in
     let B = point_of c.args.p1.now in
-    let next = next_plane (plane_at v) c.args.count l.i _ (omega arith) refl in
-    let each = each_holds plane_within _ _ _ next l.invariant.2 in
-    let grid = grid_parts (planes_of v c.args.count) A B c.requires.3 in
+    let next = next_plane (plane_at v) c.args.view.now.count l.i _ (omega arith) refl in
+    let each = each_holds plane_within _ _ _ next l.invariant.1 in
+    let grid = grid_parts (planes_of v c.args.view.now.count) A B c.requires in
     let P = plane_at v l.i in
     let F = gap_read P A c.gap-first.result c.gap-first.ensures each.0 grid.0 in
     let F' = gap_read P B c.gap-second.result c.gap-second.ensures each.0 grid.1 in
-    both_behind A B _ _ P next _ _ F.is F'.is l.span _ _ c.in_front.ensures c.in_front-in-loop-i.ensures (ap not c.if-not-in_front.true) ∙ l.invariant.3
+    both_behind A B _ _ P next _ _ F.is F'.is l.span _ _ c.in_front.ensures c.in_front-in-loop-i.ensures (ap not c.if-not-in_front.true) ∙ l.invariant.2
 
 pub cut-span-requires : goal.cut-span-requires
 cut-span-requires c =
     let l = c.loop-i in
-    let v = c.args.view.now in
+    let v = c.args.view.now.numbers.now in
     let A = point_of c.args.p0.now in
     let B = point_of c.args.p1.now in
-    let next = next_plane (plane_at v) c.args.count l.i _ (omega arith) refl in
-    let each = each_holds plane_within _ _ _ next l.invariant.2 in
-    let grid = grid_parts (planes_of v c.args.count) A B c.requires.3 in
+    let next = next_plane (plane_at v) c.args.view.now.count l.i _ (omega arith) refl in
+    let each = each_holds plane_within _ _ _ next l.invariant.1 in
+    let grid = grid_parts (planes_of v c.args.view.now.count) A B c.requires in
     let P = plane_at v l.i in
     let F = gap_read P A c.gap-first.result c.gap-first.ensures each.0 grid.0 in
     let F' = gap_read P B c.gap-second.result c.gap-second.ensures each.0 grid.1 in (
-      l.invariant.1,
+      l.invariant.0,
       record {
         first = subst (λ (z : ℤ). nat_abs z ≤ gap_limit) (sym F.is) F.size;
         second = subst (λ (z : ℤ). nat_abs z ≤ gap_limit) (sym F'.is) F'.size;
@@ -77,26 +76,25 @@ cut-span-requires c =
 pub loop-i-preserved : goal.loop-i-preserved
 loop-i-preserved c =
     let l = c.loop-i in
-    let v = c.args.view.now in
+    let v = c.args.view.now.numbers.now in
     let A = point_of c.args.p0.now in
     let B = point_of c.args.p1.now in
-    let next = next_plane (plane_at v) c.args.count l.i _ (omega arith) refl in
-    let each = each_holds plane_within _ _ _ next l.invariant.2 in
-    let grid = grid_parts (planes_of v c.args.count) A B c.requires.3 in
+    let next = next_plane (plane_at v) c.args.view.now.count l.i _ (omega arith) refl in
+    let each = each_holds plane_within _ _ _ next l.invariant.1 in
+    let grid = grid_parts (planes_of v c.args.view.now.count) A B c.requires in
     let P = plane_at v l.i in
     let F = gap_read P A c.gap-first.result c.gap-first.ensures each.0 grid.0 in
     let F' = gap_read P B c.gap-second.result c.gap-second.ensures each.0 grid.1 in (
-      omega arith,
       c.cut-span.ensures.small,
       each.1,
-      goes_on A B _ _ P next _ _ F.is F'.is l.span _ _ c.in_front.ensures c.in_front-in-loop-i.ensures (ap not c.if-not-in_front.false) c.cut-span.result c.cut-span.ensures ∙ l.invariant.3,
+      goes_on A B _ _ P next _ _ F.is F'.is l.span _ _ c.in_front.ensures c.in_front-in-loop-i.ensures (ap not c.if-not-in_front.false) c.cut-span.result c.cut-span.ensures ∙ l.invariant.2,
     )
 
 pub less-requires : goal.less-requires
-less-requires c = let l = c.loop-i in (l.invariant.1.end, l.invariant.1.start)
+less-requires c = let l = c.loop-i in (l.invariant.0.end, l.invariant.0.start)
 
 pub returns : goal.returns
 returns c =
     let l = c.loop-i in
     let a = c.args in
-    none_left _ _ _ (no_plane (plane_at a.view.now) a.count l.i (omega arith)) _ _ _ c.less.ensures ∙ l.invariant.3
+    none_left _ _ _ (no_plane (plane_at a.view.now.numbers.now) a.view.now.count l.i (omega arith)) _ _ _ c.less.ensures ∙ l.invariant.2

@@ -1,7 +1,6 @@
 -- `segment_in_view` meets its contract: the planes left and the span so far decide. Assumes nothing.
 use mathlib.Core.Path.{◌≡◌}
 use mathlib.Core.Bool.{true}
-use Prim.Native.Nat.{◌-◌, ◌≤◌}
 use lib.ListN.{drop}
 use Rattle.number.specs.Every.{every}
 use Rattle.whole.specs.Segment.{leaves, segment_in_view}
@@ -11,8 +10,5 @@ use Rattle.whole.proofs.segment.segment_in_view.Given as goal
 
 abbrev pub invariant-loop-i : goal.invariant-loop-i
 invariant-loop-i l =
-    (l.i ≤ l.count) × SmallSpan l.span × (every plane_within (drop l.i (planes_of l.view l.count)) ≡ true)
-    × (leaves (drop l.i (planes_of l.view l.count)) (point_of l.p0) (point_of l.p1) l.span.start l.span.end ≡ segment_in_view (planes_of l.view l.count) (point_of l.p0) (point_of l.p1))
-
-abbrev pub decreases-loop-i : goal.decreases-loop-i
-decreases-loop-i l = l.count - l.i
+    SmallSpan l.span × (every plane_within (drop l.i (planes_of l.view.numbers.now l.view.count)) ≡ true)
+    × (leaves (drop l.i (planes_of l.view.numbers.now l.view.count)) (point_of l.p0) (point_of l.p1) l.span.start l.span.end ≡ segment_in_view (planes_of l.view.numbers.now l.view.count) (point_of l.p0) (point_of l.p1))

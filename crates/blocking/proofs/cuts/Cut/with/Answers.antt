@@ -1,4 +1,5 @@
 -- `Cut::with` meets its contract: by its test whether the plane cuts further. Assumes nothing.
+use Rattle.std.specs.Prelude.{Some}
 use mathlib.Core.Path.{◌≡◌, sym, ap, ◌∙◌}
 use mathlib.Core.Bool.{Bool, true, false, cond}
 use Prim.Native.Nat.{ℕ}
@@ -10,7 +11,7 @@ use Rattle.blocking.proofs.cuts.Cut.with.Goals as goal
 
 module _ (s : Cut) (x : Float) (i : ℕ) where
   abbrev further : Cut
-  further = record { furthest = x; place = i; next = s.furthest }
+  further = record { furthest = x; place = Some i; next = s.furthest }
 
   abbrev no_further : Float → Cut
   no_further y = record { furthest = s.furthest; place = s.place; next = y }

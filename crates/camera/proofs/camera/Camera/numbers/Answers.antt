@@ -15,5 +15,5 @@ listed c a b d e f g h i t = entries c.transform ++ a t ∷ b t ∷ d t ∷ e t 
 
 pub returns : goal.returns
 returns c =
-    listed c.args.self c.kind_number.ensures c.widen.ensures c.widen-2.ensures c.widen-3.ensures
+    listed c.args.self c.from.ensures c.widen.ensures c.widen-2.ensures c.widen-3.ensures
     c.widen-4.ensures c.widen-5.ensures c.widen-6.ensures c.widen-7.ensures

@@ -16,7 +16,7 @@ module _ (m : Mat4d) (p : ProjectionParams) (f s : Float) (q : s ≡ to_aperture
   abbrev center : Float → Float → Float
   center x y = narrow_of (of_bits binary64 0x3fe0_0000_0000_0000 ⊗ (x ⊕ y) ⊗ s)
 
-  seen : {h v ho vo near far : Float} → h ≡ narrow_of (width p ⊗ s) → v ≡ narrow_of (height p ⊗ s) → ho ≡ center p.right p.left
+  seen : {w t h v ho vo near far : Float} → w ≡ width p → t ≡ height p → h ≡ narrow_of (w ⊗ s) → v ≡ narrow_of (t ⊗ s) → ho ≡ center p.right p.left
       → vo ≡ center p.top p.bottom → near ≡ narrow_of p.near → far ≡ narrow_of p.far
       → ◌≡◌ {A = Camera} (record {
         transform = m;
@@ -29,12 +29,12 @@ module _ (m : Mat4d) (p : ProjectionParams) (f s : Float) (q : s ≡ to_aperture
         near = near;
         far = far;
       }) (camera_of m p f)
-  seen a b c d e g t = record {
+  seen y z a b c d e g t = record {
     transform = m;
     projection = p.projection;
     focal_length = f;
-    horizontal_aperture = (a ∙ (λ i. narrow_of (width p ⊗ q i))) t;
-    vertical_aperture = (b ∙ (λ i. narrow_of (height p ⊗ q i))) t;
+    horizontal_aperture = (a ∙ (λ i. narrow_of (y i ⊗ q i))) t;
+    vertical_aperture = (b ∙ (λ i. narrow_of (z i ⊗ q i))) t;
     horizontal_aperture_offset = (c ∙ (λ i. narrow_of (half_bits i ⊗ (p.right ⊕ p.left) ⊗ q i))) t;
     vertical_aperture_offset = (d ∙ (λ i. narrow_of (half_bits i ⊗ (p.top ⊕ p.bottom) ⊗ q i))) t;
     near = e t;
@@ -44,5 +44,5 @@ module _ (m : Mat4d) (p : ProjectionParams) (f s : Float) (q : s ≡ to_aperture
 pub returns : goal.returns
 returns c =
     let a = c.args in
-    seen a.transform a.params a.focal_length _ c.to_aperture-scale.ensures c.narrow.ensures c.narrow-2.ensures
+    seen a.transform a.params a.focal_length _ c.to_aperture-scale.ensures c.width.ensures c.height.ensures c.narrow.ensures c.narrow-2.ensures
     c.narrow-3.ensures c.narrow-4.ensures c.narrow-5.ensures c.narrow-6.ensures

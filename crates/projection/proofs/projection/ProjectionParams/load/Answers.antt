@@ -1,42 +1,36 @@
--- `ProjectionParams::load` meets its contract by its two tests of the kind. Assumes nothing.
-use mathlib.Core.Path.{◌≡◌}
-use mathlib.Core.Bool.{true, false}
+-- `ProjectionParams::load` meets its contract: by the kind that was told, if there is one, and number by number by that of `at`. Assumes nothing.
+use Rattle.std.specs.Prelude.{None, Option, Some}
+use mathlib.Core.Path.{◌≡◌, refl, sym, ap, ◌∙◌}
+use mathlib.Core.Bool.{Bool, true, false, cond}
 use mathlib.Core.List.{List}
-use lib.Ieee.{Float, binary64, of_bits, eq}
+use lib.Ieee.{Float, eq}
 use Rattle.number.specs.Slice.{at}
-use Rattle.matrix.proofs.Literals.{zero_bits, one_bits}
+use Rattle.matrix.specs.Constants.{positive_zero, one}
+use Rattle.projection.specs.declared.projection.Projection.{Projection}
 use Rattle.projection.specs.declared.projection.Projection.TheVariants.{Perspective, Orthographic}
 use Rattle.projection.specs.declared.projection.ProjectionParams.{ProjectionParams}
-use Rattle.projection.specs.declared.projection.Loaded.TheVariants.{Params, UnknownKind}
-use Rattle.projection.specs.Projection.{params_of, params_loaded}
+use Rattle.projection.specs.Projection.{kind_of, params_of, params_loaded}
 use Rattle.projection.proofs.projection.ProjectionParams.load.Goals as goal
 
-module _ (s : List Float) (k : Float) (h : k ≡ at s 0) where
-  first : (p : ProjectionParams) → eq k (of_bits binary64 0) ≡ true → p ≡ params_of Perspective s → Params p ≡ params_loaded s
-  unfolding params_loaded
-  first p t i = let u = rw (zero_bits, h) at t in rw (i, u)
+-- the volume of a kind, if there is one
+abbrev of_kind : List Float → Option Projection → Option ProjectionParams
+of_kind s (Some k) = Some (params_of k s)
+of_kind s None = None
 
-  second : (p : ProjectionParams) → eq k (of_bits binary64 0) ≡ false → eq k (of_bits binary64 0x3ff0_0000_0000_0000) ≡ true → p ≡ params_of Orthographic s
-      → Params p ≡ params_loaded s
-  unfolding params_loaded
-  second p t v i =
-      let u = rw (zero_bits, h) at t in
-      let w = rw (one_bits, h) at v in
-      rw (i, u, w)
+by_kind : (s : List Float) (a b : Bool) → of_kind s (cond a (Some Perspective) (cond b (Some Orthographic) None))
+    ≡ cond a (Some (params_of Perspective s)) (cond b (Some (params_of Orthographic s)) None)
+by_kind s true b = refl
+by_kind s false true = refl
+by_kind s false false = refl
 
-  neither : eq k (of_bits binary64 0) ≡ false → eq k (of_bits binary64 0x3ff0_0000_0000_0000) ≡ false → UnknownKind ≡ params_loaded s
-  unfolding params_loaded
-  neither t v =
-      let u = rw (zero_bits, h) at t in
-      let w = rw (one_bits, h) at v in
-      rw (u, w)
+told : (s : List Float) (x : Float) (k w : Option Projection) → x ≡ at s 0 → k ≡ kind_of x → k ≡ w → of_kind s w ≡ params_loaded s
+unfolding params_loaded
+told s x k w e h i = ap (of_kind s) (sym i ∙ h ∙ ap kind_of e) ∙ by_kind s (eq (at s 0) positive_zero) (eq (at s 0) one)
 
-pub returns-then-kind : goal.returns-then-kind
-returns-then-kind c = first _ _ c.at-kind.ensures _ c.if-kind.true c.params.ensures
-
-pub returns-then-kind-2 : goal.returns-then-kind-2
-returns-then-kind-2 c =
-    second _ _ c.at-kind.ensures _ c.if-kind.false c.if-kind-2.true c.params-then-kind-2.ensures
+pub returns-in_err-projection : goal.returns-in_err-projection
+returns-in_err-projection c = rw c.from_residual.ensures (told c.args.s.now _ _ None c.at.ensures c.from_number.ensures c.in_err-projection.was)
 
 pub returns : goal.returns
-returns c = neither _ _ c.at-kind.ensures c.if-kind.false c.if-kind-2.false
+returns c =
+    rw (c.at-2.ensures, c.at-3.ensures, c.at-4.ensures, c.at-5.ensures, c.at-6.ensures, c.at-7.ensures)
+    (told c.args.s.now _ _ (Some _) c.at.ensures c.from_number.ensures c.in_ok-projection.was)

@@ -1,8 +1,0 @@
--- `pass_rest` is safe and ends: the turns left fall. Assumes nothing.
-use Rattle.explain.proofs.pass_rest.Given as goal
-
-abbrev pub invariant-loop-turns : goal.invariant-loop-turns
-invariant-loop-turns l = Unit {0}
-
-abbrev pub decreases-loop-turns : goal.decreases-loop-turns
-decreases-loop-turns l = l.turns

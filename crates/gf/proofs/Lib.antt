@@ -1,2 +1,0 @@
--- The laws that the proofs of the exported functions cite.
-pub mod Answers

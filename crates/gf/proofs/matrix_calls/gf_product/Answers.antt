@@ -1,6 +1,0 @@
--- `gf_product` meets its contract by its operation's. Assumes nothing.
-use Rattle.gf.proofs.Answers.{with_status}
-use Rattle.gf.proofs.matrix_calls.gf_product.Goals as goal
-
-pub returns : goal.returns
-returns c = with_status _ c.product.result _ _ c.status.ensures c.product.ensures

@@ -1,6 +1,0 @@
--- `gf_transform_affine` meets its contract by its operation's. Assumes nothing.
-use Rattle.gf.proofs.Answers.{with_status}
-use Rattle.gf.proofs.matrix_calls.gf_transform_affine.Goals as goal
-
-pub returns : goal.returns
-returns c = with_status _ c.transform_affine.result _ _ c.status.ensures c.transform_affine.ensures

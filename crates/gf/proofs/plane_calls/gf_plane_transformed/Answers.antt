@@ -1,6 +1,0 @@
--- `gf_plane_transformed` meets its contract by its operation's. Assumes nothing.
-use Rattle.gf.proofs.Answers.{with_status}
-use Rattle.gf.proofs.plane_calls.gf_plane_transformed.Goals as goal
-
-pub returns : goal.returns
-returns c = with_status _ c.transformed.result _ _ c.status.ensures c.transformed.ensures

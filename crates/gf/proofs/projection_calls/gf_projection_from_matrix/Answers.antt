@@ -1,6 +1,0 @@
--- `gf_projection_from_matrix` meets its contract by its operation's. Assumes nothing.
-use Rattle.gf.proofs.Answers.{with_status}
-use Rattle.gf.proofs.projection_calls.gf_projection_from_matrix.Goals as goal
-
-pub returns : goal.returns
-returns c = with_status _ c.from_matrix.result _ _ c.status.ensures c.from_matrix.ensures

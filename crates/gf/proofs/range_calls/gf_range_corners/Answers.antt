@@ -1,6 +1,0 @@
--- `gf_range_corners` meets its contract by its operation's. Assumes nothing.
-use Rattle.gf.proofs.Answers.{with_status}
-use Rattle.gf.proofs.range_calls.gf_range_corners.Goals as goal
-
-pub returns : goal.returns
-returns c = with_status _ c.corners.result _ _ c.status.ensures c.corners.ensures

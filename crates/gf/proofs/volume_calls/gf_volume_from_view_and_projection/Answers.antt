@@ -1,7 +1,0 @@
--- `gf_volume_from_view_and_projection` meets its contract by its operation's. Assumes nothing.
-use Rattle.gf.proofs.Answers.{with_status}
-use Rattle.gf.proofs.volume_calls.gf_volume_from_view_and_projection.Goals as goal
-
-pub returns : goal.returns
-returns c =
-    with_status _ c.from_view_and_projection.result _ _ c.status.ensures c.from_view_and_projection.ensures

@@ -1,6 +1,0 @@
--- `Mat4d::transpose` meets its contract by computation. Assumes nothing.
-use mathlib.Core.Path.{refl}
-use Rattle.matrix.proofs.matrix.Mat4d.transpose.Goals as goal
-
-pub returns : goal.returns
-returns c = refl

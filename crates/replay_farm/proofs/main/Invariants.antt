@@ -1,9 +1,0 @@
--- `main` is safe and ends: the place rises, and stays below 2 ^ 64. Assumes nothing.
-use Prim.Native.Nat.{◌-◌}
-use Rattle.replay_farm.proofs.main.Given as goal
-
-abbrev pub invariant-loop-place : goal.invariant-loop-place
-invariant-loop-place l = Unit {0}
-
-abbrev pub decreases-loop-place : goal.decreases-loop-place
-decreases-loop-place l = 0xffff_ffff_ffff_ffff - l.place
