@@ -116,7 +116,11 @@ impl<'a> Sections<'a> {
     }
 
     // What the file comes to, and the numbers of its sections to the front of a room.
-    pub fn answer(&self, room: &mut [f64; NUMBERS_ROOM], out: &mut [u32]) -> Result<u32, Refusal>
+    pub(crate) fn answer(
+        &self,
+        room: &mut [f64; NUMBERS_ROOM],
+        out: &mut [u32],
+    ) -> Result<u32, Refusal>
         requires { length out.old ≡ slot_count }
         ensures { let b = self.now.directory.file.now in (listing (outcome_of result) out.new ≡ listed (boxes_seen b) out.old) × InFront (file_numbers b) room.new }
     {
