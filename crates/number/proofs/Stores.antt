@@ -1,5 +1,5 @@
 -- What a slice holds after numbers were stored into it, by its length. Assumes nothing.
-use Rattle.std.proofs.Common.{◌≡◌, ℕ, ◌+◌, ◌≤◌, Bool, true, false, cond, T, eqb, leb, List, ◌++◌, length, take, drop, refl, ap, ◌∙◌, append-nil, arith, le→leb, eqb→eq, length-append, drop_of_length-le, length-take-le, drop_at}
+use Rattle.std.proofs.Common.{◌≡◌, ℕ, ◌+◌, ◌≤◌, Bool, true, false, cond, T, eqb, leb, List, ◌++◌, length, take, drop, refl, ap, ◌∙◌, append-nil, arith, le→leb, eqb→eq, leb→le, length-append, drop_of_length-le, length-take-le, drop_at}
 use lib.Ieee.{Float}
 use lib.Ieee.Bits.{is_true}
 use lib.Ieee.Fits.{eq→eqb}
@@ -17,8 +17,14 @@ pub same_room : (v out : List Float) → length v ≡ length out → stored v ou
 same_room v out e = ap (λ (b : Bool). cond b v out) (is_true (eqb (length v) (length out)) (eq→eqb e))
 
 module _ (v : List Float) (n : ℕ) (out : List Float) where
+  pub no_room_there : (n + length v ≤ length out → ⊥) → stored_at v n out ≡ out
+  no_room_there f = refused (leb (n + length v) (length out)) (take n out ++ v ++ drop (n + length v) out) out (λ t. f (leb→le (n + length v) (length out) t))
+
   pub room_there : n + length v ≤ length out → stored_at v n out ≡ take n out ++ v ++ drop (n + length v) out
   room_there h = ap (λ (b : Bool). cond b (take n out ++ v ++ drop (n + length v) out) out) (is_true (leb (n + length v) (length out)) (le→leb (n + length v) (length out) h))
+
+pub stored_all : (v out : List Float) → length v ≡ length out → stored_at v 0 out ≡ v
+stored_all v out e = room_there v 0 out (omega (arith, e)) ∙ ap (λ (l : List Float). v ++ l) (drop_of_length-le out {i = 0 + length v} (omega (arith, e))) ∙ append-nil v
 
 -- a slice filled in two parts, the second of them first
 pub in_two_parts : (a b out : List Float) → length a + length b ≡ length out → stored_at a 0 (stored_at b (length a) out) ≡ a ++ b
