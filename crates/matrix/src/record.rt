@@ -117,15 +117,47 @@ impl Record for Range3d {
 pub fn given<A: Record>(s: &[f64]) -> Result<A, Refusal>
     ensures { result ≡ unless (has A.LENGTH s.now) (Err Refusal.InputLength) (Ok (A.read s.now)) }
 {
-    if s.len() != A::LENGTH {
-        return Err(Refusal::InputLength);
+    if s.len() == A::LENGTH {
+        Ok(A::load(s))
+    } else {
+        Err(Refusal::InputLength)
     }
-    Ok(A::load(s))
 }
 
-// What is made of one record, into a slice of its length. Nothing is read before all lengths are looked at: so the compiler takes the tests at once.
+// The same where there is room for a result, a slice of the length of its record. Nothing is read before all lengths are looked at: so the compiler takes the tests
+// at once.
 #[inline(always)]
-pub fn of_one<A: Record, R: Record, F: FnOnce(A) -> R>(
+pub fn lent_one<A: Record, R: Record>(a: &[f64], room: &[f64]) -> Result<A, Refusal>
+    ensures { result ≡ unless (has A.LENGTH a.now) (Err Refusal.InputLength) (unless (has R.LENGTH room.now) (Err Refusal.OutputLength) (Ok (A.read a.now))) }
+{
+    if a.len() != A::LENGTH {
+        return Err(Refusal::InputLength);
+    }
+    if room.len() != R::LENGTH {
+        return Err(Refusal::OutputLength);
+    }
+    Ok(A::load(a))
+}
+
+// The same of two.
+#[inline(always)]
+pub fn lent_two<A: Record, B: Record, R: Record>(
+    a: &[f64],
+    b: &[f64],
+    room: &[f64],
+) -> Result<(A, B), Refusal>
+    ensures { result ≡ unless (has A.LENGTH a.now && has B.LENGTH b.now) (Err Refusal.InputLength) (unless (has R.LENGTH room.now) (Err Refusal.OutputLength) (Ok (A.read a.now, B.read b.now))) }
+{
+    if a.len() != A::LENGTH {
+        return Err(Refusal::InputLength);
+    }
+    let second = lent_one::<B, R>(b, room)?;
+    Ok((A::load(a), second))
+}
+
+// What is made of one record, into a slice of its length, by the same tests.
+#[inline(always)]
+pub(crate) fn of_one<A: Record, R: Record, F: FnOnce(A) -> R>(
     a: &[f64],
     out: &mut [f64],
     make: F,
@@ -145,7 +177,7 @@ pub fn of_one<A: Record, R: Record, F: FnOnce(A) -> R>(
 
 // The same of two.
 #[inline(always)]
-pub fn of_two<A: Record, B: Record, R: Record, F: FnOnce(A, B) -> R>(
+pub(crate) fn of_two<A: Record, B: Record, R: Record, F: FnOnce(A, B) -> R>(
     a: &[f64],
     b: &[f64],
     out: &mut [f64],

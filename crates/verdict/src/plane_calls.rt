@@ -4,8 +4,8 @@ ghost use Rattle.number.specs.Answer.{reply, outcome_of};
 ghost use Rattle.verdict.specs.PlaneCalls.{new_plane_call, from_points_call, from_equation_call, distance_call, side_call, transformed_plane_call};
 
 use crate::plane::Plane;
-use matrix::record::{given, of_one};
-use matrix::vec::Vec3d;
+use matrix::record::{given, lent_one};
+use matrix::vec::{Vec3d, Vec4d};
 use number::answer::Refusal;
 use number::limits::{PLANE_LENGTH, POINT_LENGTH};
 
@@ -13,7 +13,9 @@ use number::limits::{PLANE_LENGTH, POINT_LENGTH};
 pub fn new(normal: &[f64], distance: f64, out: &mut [f64]) -> Result<(), Refusal>
     ensures { reply result out.new ≡ new_plane_call normal.now distance out.old }
 {
-    of_one(normal, out, |unscaled| Plane::new(unscaled, distance))
+    let unscaled = lent_one::<Vec3d, Plane>(normal, out)?;
+    Plane::new(unscaled, distance).store(out);
+    Ok(())
 }
 
 // A plane from three points on it.
@@ -41,7 +43,9 @@ pub fn from_points(p0: &[f64], p1: &[f64], p2: &[f64], out: &mut [f64]) -> Resul
 pub fn from_equation(equation: &[f64], out: &mut [f64]) -> Result<(), Refusal>
     ensures { reply result out.new ≡ from_equation_call equation.now out.old }
 {
-    of_one(equation, out, Plane::from_equation)
+    let numbers = lent_one::<Vec4d, Plane>(equation, out)?;
+    Plane::from_equation(numbers).store(out);
+    Ok(())
 }
 
 // The signed distance of a point from a plane.

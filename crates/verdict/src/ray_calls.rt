@@ -5,7 +5,9 @@ ghost use Rattle.verdict.specs.RayCalls.{point_call, transformed_ray_call, plane
 
 use crate::plane::Plane;
 use crate::ray::Ray;
-use matrix::record::{given, of_one, of_two};
+use matrix::matrix::Mat4d;
+use matrix::record::{given, lent_one, lent_two};
+use matrix::vec::Vec3d;
 use number::answer::Refusal;
 use number::limits::{HIT_LENGTH, PLANE_HIT_LENGTH, PLANE_LENGTH, RAY_LENGTH};
 use number::slice;
@@ -14,14 +16,18 @@ use number::slice;
 pub fn point(ray: &[f64], distance: f64, out: &mut [f64]) -> Result<(), Refusal>
     ensures { reply result out.new ≡ point_call ray.now distance out.old }
 {
-    of_one(ray, out, |along: Ray| along.point(distance))
+    let along = lent_one::<Ray, Vec3d>(ray, out)?;
+    along.point(distance).store(out);
+    Ok(())
 }
 
 // A ray moved by a matrix.
 pub fn transformed(ray: &[f64], m: &[f64], out: &mut [f64]) -> Result<(), Refusal>
     ensures { reply result out.new ≡ transformed_ray_call ray.now m.now out.old }
 {
-    of_two(ray, m, out, Ray::transformed)
+    let (along, matrix) = lent_two::<Ray, Mat4d, Ray>(ray, m, out)?;
+    along.transformed(matrix).store(out);
+    Ok(())
 }
 
 // A ray's hit on a plane: the distance, and 1 for its front or 0 for its back. A miss is refused. It has its own tests: by `given` it took a tenth longer.
