@@ -2,7 +2,7 @@
 ghost use Rattle.std.specs.Prelude.{◌≡◌, cond};
 ghost use Rattle.matrix.specs.Vec.{axis, vec4, dot4};
 ghost use Rattle.matrix.specs.Matrix.{entry};
-ghost use Rattle.matrix.specs.Inverse.{three_rows, expanded, column_cofactor, adjugate, scaled, over, inverse_above, has_inverse, inverse};
+ghost use Rattle.matrix.specs.Inverse.{three_rows, expanded, column_cofactor, cofactors, adjugate, scaled, over, inverse_above, has_inverse, inverse};
 
 use crate::matrix::Mat4d;
 use crate::vec::{Vec3d, Vec4d};
@@ -87,8 +87,33 @@ impl Mat4d {
         }
     }
 
+    // The cofactors of a column each, which are a row of the adjugate.
+    pub fn cofactors0(self) -> Vec4d
+        ensures { result ≡ cofactors self 0 }
+    {
+        self.adjugate().r0
+    }
+
+    pub fn cofactors1(self) -> Vec4d
+        ensures { result ≡ cofactors self 1 }
+    {
+        self.adjugate().r1
+    }
+
+    pub fn cofactors2(self) -> Vec4d
+        ensures { result ≡ cofactors self 2 }
+    {
+        self.adjugate().r2
+    }
+
+    pub fn cofactors3(self) -> Vec4d
+        ensures { result ≡ cofactors self 3 }
+    {
+        self.adjugate().r3
+    }
+
     // The determinant: the first row times its cofactors, which are the first column of the adjugate.
-    fn determinant_by(self, adjugate: Mat4d) -> f64
+    pub fn determinant_by(self, adjugate: Mat4d) -> f64
         ensures { result ≡ dot4 (entry self 0) (λ i. entry adjugate i 0) }
     {
         self.r0.x * adjugate.r0.x
@@ -111,7 +136,7 @@ impl Mat4d {
     // An adjugate over its determinant, where that is larger than epsilon in size. The NaN has a test of its own, since
     // the one in `abs` then goes.
     #[inline(always)]
-    fn over(self, det: f64, epsilon: f64) -> Option<Mat4d>
+    pub fn over(self, det: f64, epsilon: f64) -> Option<Mat4d>
         ensures { result ≡ over epsilon det self }
     {
         if det.is_nan() {
