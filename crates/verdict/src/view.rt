@@ -10,8 +10,10 @@ ghost use Rattle.verdict.specs.Steps.Passes.{all_planes};
 use crate::plane::Plane;
 use crate::ray::Ray;
 use crate::record::vec3_at;
+use matrix::vec::Vec3d;
 use number::answer::Refusal;
 use number::limits::{FEWEST_PLANES, MOST_PLANES};
+use number::slice::at;
 
 // A bit for each of the original planes.
 pub(crate) const ORIGINAL_PLANES: u64 = (1 << FEWEST_PLANES) - 1;
@@ -129,16 +131,25 @@ pub struct Planes<'a> {
 }
 
 impl<'a> Planes<'a> {
-    // The plane at a place.
+    // The plane at a place. Behind those that are counted it is what the record has there, with a NaN for each number past its end.
     #[inline(always)]
     pub fn plane(self, i: u32) -> Plane
-        requires { i < self.count }
         ensures { result ≡ plane_at self.entry.numbers.now i }
     {
         let from = plane_start(i);
+        if i < self.count {
+            return Plane {
+                normal: vec3_at(self.numbers, from),
+                distance: self.numbers[from + 3],
+            };
+        }
         Plane {
-            normal: vec3_at(self.numbers, from),
-            distance: self.numbers[from + 3],
+            normal: Vec3d {
+                x: at(self.numbers, from),
+                y: at(self.numbers, from + 1),
+                z: at(self.numbers, from + 2),
+            },
+            distance: at(self.numbers, from + 3),
         }
     }
 }
