@@ -1,10 +1,10 @@
 // The planes of a view side by side, as the verdicts read them: the x of every normal, then every y, every z, and the distances, each
 // in a row that has room for the most planes. That they lie so is a claim of its own, `EveryPlace`; several planes are taken at a time. What knows this layout is here.
-ghost use Rattle.std.specs.Prelude.{◌≡◌, ◌<◌, ◌≤◌, IfErr, IfOk};
+ghost use Rattle.std.specs.Prelude.{◌≡◌, ◌<◌, ◌≤◌, length, take, IfErr, IfOk};
 ghost use Rattle.number.specs.Limits.{most_planes};
 ghost use Rattle.number.specs.Answer.{outcome_of};
 ghost use Rattle.verdict.specs.View.{planes_held};
-ghost use Rattle.verdict.specs.Rows.{plane_in_rows, with_planes, rows_loaded};
+ghost use Rattle.verdict.specs.Rows.{rows_length, plane_in_rows, planes_in_rows, with_planes, rows_loaded};
 
 use crate::plane::Plane;
 use crate::view::{Planes, planes_held};
@@ -20,14 +20,48 @@ const Z_ROW: usize = 2 * Y_ROW;
 const DISTANCE_ROW: usize = 3 * Y_ROW;
 
 // The numbers of all rows.
-const ROWS_LENGTH: usize = 4 * Y_ROW;
+pub const ROWS_LENGTH: usize = 4 * Y_ROW;
 
 // The rows, and how many planes are in them. A place behind these is never read.
-#[derive(Drop)]
+#[derive(Clone, Copy)]
 pub struct Rows {
     pub(crate) numbers: [f64; ROWS_LENGTH],
     pub(crate) count: u32,
     pub ghost room: { count ≤ most_planes },
+}
+
+// The planes of a record, each to its place. What stands elsewhere is kept.
+#[inline(always)]
+fn gather(planes: Planes, rows: &mut [f64])
+    requires { length rows.old ≡ rows_length }
+    ensures { rows.new ≡ with_planes planes.entry.numbers.now planes.entry.count rows.old }
+{
+    for i in 0..planes.count {
+        let plane = planes.plane(i);
+        let place = i as usize;
+        rows[place] = plane.normal.x;
+        rows[place + Y_ROW] = plane.normal.y;
+        rows[place + Z_ROW] = plane.normal.z;
+        rows[place + DISTANCE_ROW] = plane.distance;
+    }
+}
+
+// How many planes a record holds, by its count and its length, and these to their places in a slice that has room for just the rows. One of another length is left
+// alone, and by a record that is refused each is.
+pub fn load(volume: &[f64], rows: &mut [f64]) -> Result<u32, Refusal>
+    ensures { (outcome_of result ≡ planes_held volume.now) × (rows.new ≡ rows_loaded (planes_held volume.now) volume.now rows.old) }
+{
+    let count = planes_held(volume)?;
+    if rows.len() == ROWS_LENGTH {
+        gather(
+            Planes {
+                numbers: volume,
+                count,
+            },
+            rows,
+        );
+    }
+    Ok(count)
 }
 
 impl Rows {
@@ -36,6 +70,16 @@ impl Rows {
         numbers: [0.0; ROWS_LENGTH],
         count: 0,
     };
+
+    // Of the planes that some numbers are as many as are counted, the most at most.
+    pub fn of(numbers: [f64; ROWS_LENGTH], count: u32) -> Rows
+        ensures { planes_in_rows result.numbers result.count ≡ take count (planes_in_rows numbers most_planes) }
+    {
+        Rows {
+            numbers,
+            count: count.min(MOST_PLANES),
+        }
+    }
 
     // The plane at a place.
     #[inline(always)]
@@ -60,14 +104,7 @@ impl Rows {
         ensures numbers { self.new.numbers ≡ with_planes planes.entry.numbers.now planes.entry.count self.old.numbers }
         ensures count { self.new.count ≡ planes.entry.count }
     {
-        for i in 0..planes.count {
-            let plane = planes.plane(i);
-            let place = i as usize;
-            self.numbers[place] = plane.normal.x;
-            self.numbers[place + Y_ROW] = plane.normal.y;
-            self.numbers[place + Z_ROW] = plane.normal.z;
-            self.numbers[place + DISTANCE_ROW] = plane.distance;
-        }
+        gather(planes, &mut self.numbers);
         self.count = planes.count;
     }
 
@@ -78,11 +115,7 @@ impl Rows {
         ensures count { IfOk result (λ n. self.new.count ≡ n) }
         ensures kept { IfErr result (λ _. self.new.count ≡ self.old.count) }
     {
-        let count = planes_held(volume)?;
-        self.gather(Planes {
-            numbers: volume,
-            count,
-        });
-        Ok(count)
+        self.count = load(volume, &mut self.numbers)?;
+        Ok(self.count)
     }
 }
