@@ -8,6 +8,9 @@ use number::answer::Refusal;
 use number::limits::BOX_LENGTH;
 use number::slice;
 
+// The size of a group that needs no combining.
+const SINGLE: usize = 1;
+
 // One box that holds those of a group, combined left to right. A single box comes back as it is.
 pub fn combine_group(boxes: &[f64], out: &mut [f64]) -> Result<(), Refusal>
     ensures { reply result out.new ≡ group_call boxes.now out.old }
@@ -28,7 +31,7 @@ pub fn combine_group(boxes: &[f64], out: &mut [f64]) -> Result<(), Refusal>
     if !group.all_flagged() {
         return Err(Refusal::Kind);
     }
-    if group.count == 1 {
+    if group.count == SINGLE {
         slice::store(boxes, out);
         return Ok(());
     }

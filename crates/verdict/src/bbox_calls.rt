@@ -67,7 +67,9 @@ pub fn volume(b: &[f64]) -> Result<f64, Refusal>
     if b.len() != BOX_LENGTH {
         return Err(Refusal::InputLength);
     }
-    flagged(b)?;
+    if !is_flag(at(b, FLAG_PLACE)) {
+        return Err(Refusal::Kind);
+    }
     Ok(BBox3d::load(b).volume())
 }
 

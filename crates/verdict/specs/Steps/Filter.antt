@@ -61,12 +61,19 @@ error_of size = size ⊗ part
 abbrev pub trusted : Vec4d → Range3d → Bool
 trusted e r = lt (extent_of r) long && lt (short ⊗ short) (square_of e) && lt (square_of e) (long ⊗ long) && lt least_size (size_of e r) && lt (size_of e r) most_size
 
+-- by an estimate and its error the range reaches the positive side, or misses it
+abbrev pub is_reached : Float → Float → Bool
+is_reached error estimate = le error estimate
+
+abbrev pub is_missed : Float → Float → Bool
+is_missed error estimate = lt estimate (neg error)
+
 -- Whether any of the range is on the positive side of the plane that the equation makes, where the filter tells.
 unfoldable pub settled_of : Vec4d → Range3d → Option Bool
 settled_of e r =
     let error = error_of (size_of e r) in
     let estimate = estimate_of e r in
-    cond (trusted e r && le error estimate) (Some (not (is_empty r))) (cond (trusted e r && lt estimate (neg error)) (Some false) None)
+    cond (trusted e r && is_reached error estimate) (Some (not (is_empty r))) (cond (trusted e r && is_missed error estimate) (Some false) None)
 
 -- the numbers are values of the format, as every number of the code is
 abbrev pub Fits : Vec4d → Type 0

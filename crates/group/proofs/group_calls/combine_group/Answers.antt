@@ -41,16 +41,16 @@ pub returns-then-not-all_flagged : goal.returns-then-not-all_flagged
 returns-then-not-all_flagged c =
     no_flag _ _ c.if-boxes-eq0.false c.if-boxes-gt-MOST_NUMBERS.false c.if-boxes-ne0.false c.if-out-ne-BOX_LENGTH.false _ (flags _ c.of-group.ensures c.all_flagged.ensures) (ap not c.if-not-all_flagged.true)
 
-pub returns-then-group-eq1 : goal.returns-then-group-eq1
-returns-then-group-eq1 c =
+pub returns-then-group-eq-SINGLE : goal.returns-then-group-eq-SINGLE
+returns-then-group-eq-SINGLE c =
     let s = c.args.boxes.now in
     written _ _ c.if-boxes-eq0.false c.if-boxes-gt-MOST_NUMBERS.false c.if-boxes-ne0.false c.if-out-ne-BOX_LENGTH.false _ (flags _ c.of-group.ensures c.all_flagged.ensures) (ap not c.if-not-all_flagged.false) _ _
-    (omega (arith, c.of-group.result.whole, ap length c.of-group.ensures.0, c.if-group-eq1.true)) c.store.ensures (single s (sym c.of-group.ensures.1 ∙ c.if-group-eq1.true) c.if-boxes-ne0.false)
+    (omega (arith, c.of-group.result.whole, ap length c.of-group.ensures.0, c.if-group-eq-SINGLE.true)) c.store.ensures (single s (sym c.of-group.ensures.1 ∙ c.if-group-eq-SINGLE.true) c.if-boxes-ne0.false)
 
 pub combine-requires : goal.combine-requires
-combine-requires c = omega (arith, c.of-group.result.whole, ap length c.of-group.ensures.0, c.if-boxes-eq0.false, c.if-group-eq1.false)
+combine-requires c = omega (arith, c.of-group.result.whole, ap length c.of-group.ensures.0, c.if-boxes-eq0.false, c.if-group-eq-SINGLE.false)
 
 pub returns : goal.returns
 returns c =
     written _ _ c.if-boxes-eq0.false c.if-boxes-gt-MOST_NUMBERS.false c.if-boxes-ne0.false c.if-out-ne-BOX_LENGTH.false _ (flags _ c.of-group.ensures c.all_flagged.ensures) (ap not c.if-not-all_flagged.false) _ _
-    refl c.store-2.ensures (joined _ c.of-group.ensures c.combine.ensures (omega (arith, c.of-group.result.whole, ap length c.of-group.ensures.0, c.if-boxes-eq0.false, c.if-group-eq1.false)))
+    refl c.store-2.ensures (joined _ c.of-group.ensures c.combine.ensures (omega (arith, c.of-group.result.whole, ap length c.of-group.ensures.0, c.if-boxes-eq0.false, c.if-group-eq-SINGLE.false)))

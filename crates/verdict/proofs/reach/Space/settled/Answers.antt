@@ -1,13 +1,13 @@
 -- `Space::settled` meets its contract, call by call. Assumes nothing.
 use Rattle.std.proofs.Common.{◌≡◌, Bool, true, false, not, cond, ◌&&◌, None, Some, sym, refl, ap, ◌∙◌}
-use lib.Ieee.{Float, binary64, of_bits, lt, le, neg}
+use lib.Ieee.{Float, binary64, of_bits, lt}
 use Rattle.number.specs.Arithmetic.{◌⊕◌, ◌⊗◌, abs_of}
 use Rattle.matrix.specs.Range.{is_empty}
 use Rattle.matrix.specs.Vec.{dot}
 use Rattle.matrix.specs.declared.vec.Vec4d.{Vec4d}
 use Rattle.matrix.specs.declared.range.Range3d.{Range3d}
 use Rattle.verdict.specs.Plane.{end_toward}
-use Rattle.verdict.specs.Steps.Filter.{normal_of, extent_of, settled_of}
+use Rattle.verdict.specs.Steps.Filter.{normal_of, extent_of, is_reached, is_missed, settled_of}
 use Rattle.verdict.proofs.Literals.{short_bits, long_bits, least_bits, most_bits, part_bits, three_bits}
 use Rattle.verdict.proofs.reach.Space.settled.Goals as goal
 
@@ -29,17 +29,17 @@ module _ (e : Vec4d) (r : Range3d) where
         && lt (of_bits binary64 0x2d40_4bd9_8499_0e6f) (s ⊗ (of_bits binary64 0x4008_0000_0000_0000 ⊕ q) ⊕ d)
         && lt (s ⊗ (of_bits binary64 0x4008_0000_0000_0000 ⊕ q) ⊕ d) (of_bits binary64 0x529f_6b0f_0929_59c7)
 
-    told : (z : Bool) → z ≡ is_empty r → cond (sure && le error estimate) (Some (not z)) (cond (sure && lt estimate (neg error)) (Some false) None) ≡ settled_of e r
+    told : (z : Bool) → z ≡ is_empty r → cond (sure && is_reached error estimate) (Some (not z)) (cond (sure && is_missed error estimate) (Some false) None) ≡ settled_of e r
     unfolding settled_of
     told z Z = rw (Q, S, D, CX, CY, CZ, Z, three_bits, short_bits, long_bits, least_bits, most_bits, part_bits)
 
-    pub ahead : (z : Bool) → z ≡ is_empty r → (sure && le error estimate) ≡ true → Some (not z) ≡ settled_of e r
-    ahead z Z h = sym (ap (λ (b : Bool). cond b (Some (not z)) (cond (sure && lt estimate (neg error)) (Some false) None)) h) ∙ told z Z
+    pub ahead : (z : Bool) → z ≡ is_empty r → (sure && is_reached error estimate) ≡ true → Some (not z) ≡ settled_of e r
+    ahead z Z h = sym (ap (λ (b : Bool). cond b (Some (not z)) (cond (sure && is_missed error estimate) (Some false) None)) h) ∙ told z Z
 
-    pub behind : (sure && le error estimate) ≡ false → (sure && lt estimate (neg error)) ≡ true → Some false ≡ settled_of e r
+    pub behind : (sure && is_reached error estimate) ≡ false → (sure && is_missed error estimate) ≡ true → Some false ≡ settled_of e r
     behind h k = sym (λ t. cond (h t) (Some (not (is_empty r))) (cond (k t) (Some false) None)) ∙ told _ refl
 
-    pub untold : (sure && le error estimate) ≡ false → (sure && lt estimate (neg error)) ≡ false → None ≡ settled_of e r
+    pub untold : (sure && is_reached error estimate) ≡ false → (sure && is_missed error estimate) ≡ false → None ≡ settled_of e r
     untold h k = sym (λ t. cond (h t) (Some (not (is_empty r))) (cond (k t) (Some false) None)) ∙ told _ refl
 
 pub returns-then-trusted-error : goal.returns-then-trusted-error
