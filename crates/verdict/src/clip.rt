@@ -1,5 +1,6 @@
 // Whether a box reaches into clip space.
 ghost use Rattle.std.specs.Prelude.{◌≡◌};
+ghost use Rattle.matrix.specs.Matrix.{product};
 ghost use Rattle.verdict.specs.Frustum.{box_in_view_volume};
 ghost use Rattle.verdict.specs.Steps.Passes.{corner_under, passed_by, all_sides};
 
@@ -47,18 +48,27 @@ impl Sides {
         }
     }
 
+    // The first pair that is not within ends it.
     fn all(self) -> bool
         ensures { result ≡ all_sides self }
     {
-        (self.right & self.left) & (self.top & self.bottom) & (self.far & self.near)
+        (self.right && self.left) && (self.top && self.bottom) && (self.far && self.near)
     }
+}
+
+// The product of two matrices, by a call: put into the pass over the corners it would take longer.
+#[inline(never)]
+fn product(a: Mat4d, b: Mat4d) -> Mat4d
+    ensures { result ≡ product a b }
+{
+    a.product(b)
 }
 
 // One pass over the corners. The comparisons are strict.
 pub fn intersects_view_volume(b: BBox3d, m: Mat4d) -> bool
     ensures { result ≡ box_in_view_volume b m }
 {
-    let to_clip = b.matrix.product(m);
+    let to_clip = product(b.matrix, m);
     let mut sides = Sides::default();
     for i in 0..8 {
         sides = sides.passed_by(corner_under(b.range, to_clip, i));
