@@ -1,19 +1,30 @@
 -- What the answers mean (`specs/Meaning.antt`): by the search for the least, and by induction over the places below a limit. Assumes nothing.
 use Rattle.std.specs.Prelude.{None, Option, Some, ℕ}
-use mathlib.Core.Path.{◌≡◌, refl, sym, subst}
+use mathlib.Core.Path.{◌≡◌, refl, sym, ap, ◌∙◌, subst}
 use mathlib.Core.Bool.{Bool, true, false, cond}
 use mathlib.Core.Logic.{◌⊎◌, inl, inr}
 use mathlib.Core.List.Memᴰ
 use mathlib.Core.List.{List, [], ◌∷◌, ◌++◌, append-nil, Memᴰ}
-use Prim.Native.Nat.{ℕ, zero, suc, ◌<◌}
+use Prim.Native.Nat.{ℕ, zero, suc, ◌*◌, ◌<◌, ◌≤◌}
 use native.Mathlib.Omega.{arith}
-use lib.Dec.{T}
+use borrow.Author.Tests.{eq-eqb, leb-true}
+use lib.Dec.{T, leb}
+use lib.ListN.{length}
 use lib.Ieee.{Float, lt}
 use lib.Ieee.Bits.{is_true}
+use Rattle.number.specs.Answer.{outcome, put_place}
+use Rattle.number.specs.Limits.{point_length, range_length}
+use Rattle.number.specs.Slots.{unused}
+use Rattle.number.specs.Records.{are_records}
 use Rattle.number.proofs.Comparisons.{refuted, lt_not_le, not_less}
+use Rattle.number.proofs.Tests.{both_hold}
+use Rattle.number.proofs.Records.{records_length}
+use Rattle.number.proofs.Ways.{both, answered}
+use Rattle.matrix.specs.Vec.{vec3_of}
 use Rattle.matrix.specs.declared.vec.Vec3d.{Vec3d}
 use Rattle.number.specs.Places.{places_below}
-use Rattle.nearest.specs.Nearest.{range_count, distance_at, is_candidate, is_nearer, is_nearest, is_within, nearest_of, places_within}
+use Rattle.nearest.specs.Nearest.{most_ranges, range_count, are_ranges, distance_at, is_candidate, is_nearer, is_nearest, is_within, nearest_of, places_within}
+use Rattle.nearest.specs.Calls.{nearest_call}
 use Rattle.nearest.specs.Meaning.{IsNearest, NearestMeans, NoneMeans, Rising, WithinMeans}
 use Rattle.number.proofs.PlacesBelow.{as_many, below_or_last}
 use Rattle.nearest.proofs.First.{Best, Searched, finds, searched}
@@ -62,6 +73,40 @@ none_means s p = (
   λ e i l t. absurd (subst T (subst (Searched (is_candidate s p) (is_nearer s p) (range_count s)) e (known s p) i l) t),
   λ h. is_found s p None (λ i l. refuted (is_candidate s p i) (h i l)),
 )
+
+-- ---- the number that stands for none
+
+-- what the test of the ranges says of their number
+pub record Counted (s : List Float) : Type 0 where
+  pub whole : length s ≡ range_count s * range_length
+  pub most : range_count s ≤ most_ranges
+
+pub counted : (s : List Float) → are_ranges s ≡ true → Counted s
+counted s h =
+    let p = both_hold (are_records range_length s) (leb (length s) (most_ranges * range_length)) h in
+    let whole = records_length range_length s p.0 in
+    let l = leb-true (length s) (most_ranges * range_length) p.1 in
+    record { whole = whole; most = omega arith }
+
+-- it is no place
+pub place_below : (s : List Float) (p : Vec3d) (i : ℕ) → are_ranges s ≡ true → nearest_of s p ≡ Some i → i < unused
+place_below s p i h e =
+    let l = ((nearest_means s p i).0 e).place in
+    let m = (counted s h).most in
+    omega arith
+
+-- so that where it is told none is left
+pub none_left : (s p : List Float) (n before : ℕ) → are_ranges s ≡ true → length p ≡ point_length → n ≡ (put_place (outcome (nearest_of s (vec3_of p))) before).value → n ≡ unused
+    → outcome None ≡ nearest_call s p
+unfolding nearest_call
+none_left s p n before h e g z = answered _ _ _ None (both h (eq-eqb _ _ e)) (go (nearest_of s (vec3_of p)) refl)
+  where
+    go : (f : Option ℕ) → nearest_of s (vec3_of p) ≡ f → None ≡ f
+    go None k = refl
+    go (Some i) k =
+        let l = place_below s (vec3_of p) i h k in
+        let q = sym z ∙ g ∙ ap (λ (f : Option ℕ). (put_place (outcome f) before).value) k in
+        absurd (omega arith)
 
 -- ---- those within a distance
 

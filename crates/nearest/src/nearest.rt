@@ -123,12 +123,12 @@ impl<'a> Ranges<'a> {
     }
 
     // The places of those that are within a squared distance, to the front of the slots; answers how many they are.
-    fn places_within(self, p: Vec3d, limit: f64, out: &mut [u32]) -> u32
-        requires { length out.old ≡ range_count self.numbers.now }
+    fn places_within(self, count: u32, p: Vec3d, limit: f64, out: &mut [u32]) -> u32
+        requires { (count ≡ range_count self.numbers.now) × (length out.old ≡ count) }
         ensures { (result ≡ length (places_within self.entry.numbers.now p limit)) × (take result out.new ≡ places_within self.entry.numbers.now p limit) × (length out.new ≡ length out.old) }
     {
         let mut found: u32 = 0;
-        for i in 0..self.count() {
+        for i in 0..count {
             // written over by the next that is within, or cleared at the end
             out[found as usize] = i;
             found += u32::from(is_within(self.range(i), p, limit));
@@ -141,7 +141,8 @@ impl<'a> Ranges<'a> {
         requires { length out.old ≡ range_count self.numbers.now }
         ensures { (result ≡ length (places_within self.entry.numbers.now p limit)) × (out.new ≡ slots_of (range_count self.entry.numbers.now) (places_within self.entry.numbers.now p limit)) }
     {
-        let found = self.places_within(p, limit, out);
+        let count = self.count();
+        let found = self.places_within(count, p, limit, out);
         out[found as usize..].fill(UNUSED);
         found
     }

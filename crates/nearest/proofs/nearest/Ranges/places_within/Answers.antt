@@ -65,10 +65,10 @@ loop-i-preserved c =
     let l = c.loop-i in
     let a = c.args in
     subst (λ (b : ℕ). Listed (is_within a.self.numbers.now a.p a.limit) (l.i + 1) (length a.out.now) (l.found + b) (set l.out l.found l.i)) (sym c.from-found.ensures)
-    (next _ l.i _ l.found l.out c.is_within.result l.invariant (omega (arith, c.count-i-end.ensures, c.requires)) (c.is_within.ensures ∙ within_at a.self.numbers.now a.p a.limit l.i _ c.range.ensures))
+    (next _ l.i _ l.found l.out c.is_within.result l.invariant (omega (arith, c.requires.0, c.requires.1)) (c.is_within.ensures ∙ within_at a.self.numbers.now a.p a.limit l.i _ c.range.ensures))
 
 pub returns : goal.returns
 returns c =
     let l = c.loop-i in
     let a = c.args in
-    all_passed a.self.numbers.now a.p a.limit l.i (length a.out.now) l.found l.out (omega (arith, c.count-i-end.ensures)) l.invariant
+    all_passed a.self.numbers.now a.p a.limit l.i (length a.out.now) l.found l.out (omega (arith, c.requires.0)) l.invariant
