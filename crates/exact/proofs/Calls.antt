@@ -14,8 +14,7 @@ use Rattle.number.specs.Answer.{Outcome, refused, outcome, and_then, unless, has
 use Rattle.number.specs.Every.{every}
 use Rattle.number.proofs.Tests.{both_hold}
 use Rattle.number.proofs.Ways.{both, stops, passes}
-use Rattle.whole.specs.SegmentCall.{number_at, planes_of, view_length, count_of, permitted, plane_within}
-use Rattle.whole.specs.Steps.{planes_held}
+use Rattle.whole.specs.SegmentCall.{number_at, planes_of, view_length, count_of, permitted, planes_held, plane_within}
 use Rattle.whole.proofs.Held.{after_lengths, not_held, is_held}
 use Rattle.exact.specs.declared.plane.Point.{Point}
 use Rattle.exact.specs.ExactPoint.{Satisfies}

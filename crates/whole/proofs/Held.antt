@@ -11,8 +11,7 @@ use Rattle.number.specs.Answer.{Outcome, refused, outcome, and_then, unless, has
 use Rattle.number.proofs.Ways.{both, stops, passes}
 use borrow.Author.Tests.{eq-eqb, ne_eqb}
 use Rattle.whole.specs.Segment.{segment_in_view}
-use Rattle.whole.specs.SegmentCall.{number_at, point_of, planes_of, view_length, count_of, permitted, segment_on_grid, whole_segment_call}
-use Rattle.whole.specs.Steps.{planes_held}
+use Rattle.whole.specs.SegmentCall.{number_at, point_of, planes_of, view_length, count_of, permitted, planes_held, segment_on_grid, whole_segment_call}
 
 -- one test after another with the same refusal
 pub unless_both : {A : Type 0} (a b : Bool) (refusal rest : A) → unless a refusal (unless b refusal rest) ≡ unless (a && b) refusal rest

@@ -44,6 +44,13 @@ count_of (negsuc n) = 0
 abbrev pub permitted : ℕ → Bool
 permitted n = leb fewest_planes n && leb n most_planes
 
+-- How many planes a view holds, by its count and its length: 1 for a view below that of the fewest planes, 12 for the count, 1 for another length than the count's.
+unfoldable pub planes_held : List ℤ → Outcome ℕ
+planes_held view =
+    let n = count_of (number_at view 0) in
+    unless (leb (view_length fewest_planes) (length view)) (refused 1) (unless (permitted n) (refused 12)
+    (unless (has (view_length n) view) (refused 1) (outcome n)))
+
 -- a number is at most a limit in size
 abbrev pub within : ℕ → ℤ → Bool
 within limit z = leb (nat_abs z) limit

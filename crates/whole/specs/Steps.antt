@@ -1,25 +1,9 @@
 -- What the private functions are given: records that are on the grid, and fractions that are small enough to multiply. They serve the contracts of private
 -- functions; the verdict's definition does not speak of them. Definitions only.
-use Rattle.std.specs.Prelude.{ℕ, ◌*◌, ◌^◌, ◌≤◌, ◌<◌, ◌≡◌, List, leb, length, ℤ, nat_abs, ◌-ℤ◌}
-use Rattle.number.specs.Limits.{fewest_planes}
-use Rattle.number.specs.Answer.{Outcome, refused, outcome, unless, has}
+use Rattle.std.specs.Prelude.{ℕ, ◌*◌, ◌^◌, ◌≤◌, ◌<◌, ◌≡◌, ℤ, nat_abs, ◌-ℤ◌}
 use Rattle.whole.specs.declared.fraction.Fraction.{Fraction}
 use Rattle.whole.specs.Segment.{start_by, end_by}
 use Rattle.whole.specs.declared.fraction.Span.{Span}
-use Rattle.whole.specs.SegmentCall.{number_at, view_length, count_of, permitted}
-
--- ---- views
-
--- How many planes a view holds, by its count and its length: 1 for a view below that of the fewest planes, 12 for the count, 1 for another length than the count's.
-unfoldable pub planes_held : List ℤ → Outcome ℕ
-planes_held view =
-    let n = count_of (number_at view 0) in
-    unless (leb (view_length fewest_planes) (length view)) (refused 1)
-    (unless (permitted n) (refused 12)
-    (unless (has (view_length n) view) (refused 1)
-    (outcome n)))
-
--- ---- fractions
 
 -- A distance is at most 3 * 128 * 65,536 + 16,777,216 in size.
 abbrev pub gap_limit : ℕ

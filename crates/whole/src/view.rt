@@ -4,8 +4,7 @@ ghost use Rattle.number.specs.Every.{every};
 ghost use Rattle.number.specs.Limits.{grid_limit};
 ghost use Rattle.number.specs.Answer.{number_of, refused, outcome};
 ghost use Rattle.whole.specs.Plane.{gap};
-ghost use Rattle.whole.specs.Steps.{planes_held};
-ghost use Rattle.whole.specs.SegmentCall.{point_of, plane_at, planes_of, view_length, count_of, within, point_within, plane_within};
+ghost use Rattle.whole.specs.SegmentCall.{point_of, plane_at, planes_of, view_length, count_of, planes_held, within, point_within, plane_within};
 
 use number::answer::Refusal;
 use number::limits::{FEWEST_PLANES, GRID_LIMIT, MOST_PLANES, PLANE_LENGTH, POINT_LENGTH};
@@ -68,7 +67,7 @@ pub struct WholeView<'a> {
 }
 
 impl<'a> WholeView<'a> {
-    #[tactic(auto, unfolding(crate::specs::Steps::planes_held))]
+    #[tactic(auto, unfolding(crate::specs::SegmentCall::planes_held))]
     // The view that the numbers are, by the count in front and their length.
     pub fn held(numbers: &'a [i32]) -> Result<WholeView<'a>, Refusal>
         ensures { MatchResult result
