@@ -33,7 +33,7 @@ fn moved(point: Vec3<i32>, column: Vec3<i32>, translation: i32) -> i32
 }
 
 // The numbers in front of a box's flag: a range, and the matrix that places it.
-#[derive(Drop)]
+#[derive(Clone, Copy)]
 pub(crate) struct Placement {
     pub numbers: [i32; FLAG_PLACE],
     pub ghost small: { BoxNumbers numbers },

@@ -13,11 +13,11 @@ pub struct Inputs<'a> {
 }
 
 // The first numbers of a slice, as many as it has, and what follows them.
-fn cut(s: &[f64], count: u8) -> (&[f64], &[f64])
+pub fn cut(s: &[f64], count: usize) -> (&[f64], &[f64])
     ensures first { result.0.now ≡ take count s.now }
     ensures rest { result.1.now ≡ drop count s.now }
 {
-    s.split_at(usize::from(count).min(s.len()))
+    s.split_at(count.min(s.len()))
 }
 
 impl<'a> Inputs<'a> {
@@ -28,10 +28,10 @@ impl<'a> Inputs<'a> {
         ensures third { result.c.now ≡ take (slice_index lengths.places 2) (drop (slice_index lengths.places 1) (drop (slice_index lengths.places 0) given.now)) }
         ensures fourth { result.d.now ≡ take (slice_index lengths.places 3) (drop (slice_index lengths.places 2) (drop (slice_index lengths.places 1) (drop (slice_index lengths.places 0) given.now))) }
     {
-        let (a, past_a) = cut(given, lengths.places[0]);
-        let (b, past_b) = cut(past_a, lengths.places[1]);
-        let (c, past_c) = cut(past_b, lengths.places[2]);
-        let (d, _) = cut(past_c, lengths.places[3]);
+        let (a, past_a) = cut(given, usize::from(lengths.places[0]));
+        let (b, past_b) = cut(past_a, usize::from(lengths.places[1]));
+        let (c, past_c) = cut(past_b, usize::from(lengths.places[2]));
+        let (d, _) = cut(past_c, usize::from(lengths.places[3]));
         Inputs { a, b, c, d }
     }
 }

@@ -9,9 +9,9 @@ use crate::same::all_same;
 use crate::words::ROOM;
 
 // What a call answers: 0 or the number of its refusal, and the numbers that it left.
-#[derive(Drop)]
+#[derive(Clone, Copy)]
 pub struct Answer {
-    pub status: u32,
+    pub status: u64,
     pub numbers: [f64; ROOM],
 }
 
@@ -27,7 +27,7 @@ impl Answer {
     fn refuses(&self, at: usize) -> bool
         ensures { result ≡ refused_at at self.now.status self.now.numbers }
     {
-        (self.status == u32::from(refusal(at))) & all_same(true, &self.numbers, &blank())
+        (self.status == u64::from(u32::from(refusal(at)))) & all_same(true, &self.numbers, &blank())
     }
 }
 

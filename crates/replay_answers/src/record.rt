@@ -73,7 +73,7 @@ fn read_numbers(count: usize, numbers: &mut [f64; ROOM]) {
 }
 
 // A recorded call: the lengths that its operation asks for, the numbers of its inputs one behind the other, and what it answered.
-#[derive(Drop)]
+#[derive(Clone, Copy)]
 struct Record {
     operation: Operation,
     signed: bool,
@@ -103,7 +103,7 @@ impl Record {
             lengths,
             given,
             answer: Answer {
-                status: u32::from(status),
+                status: u64::from(status),
                 numbers,
             },
         }
@@ -122,7 +122,10 @@ impl Record {
             Ok(answer) => status(answer),
             Err(_) => UNPLAYED,
         };
-        Some(Answer { status, numbers })
+        Some(Answer {
+            status: u64::from(status),
+            numbers,
+        })
     }
 
     // Whether the call of a trial answers as it must.
@@ -139,7 +142,7 @@ impl Record {
     // before some wrong lengths of a volume, and behind others.
     fn agrees(&self) -> bool {
         self.passes(Trial::Recorded)
-            && (self.answer.status == u32::from(Refusal::PlaneCount)
+            && (self.answer.status == u64::from(u32::from(Refusal::PlaneCount))
                 || (0..5).all(|at| self.passes(Trial::Shorter(at))
                     && self.passes(Trial::Longer(at))))
     }
