@@ -53,14 +53,15 @@ for what in ("ghost items and constants", "definitions"):
 
 
 def lemmas(root):
-    """The statements of the pub lemmas that lie right in proofs/ or in a folder of laws there, by crate and name."""
+    """The statements of the pub lemmas that lie right in proofs/ or in a folder of laws there, by crate and name. Those of a module, and the fields of a record, stand
+    further in; what follows a statement stands further in than it."""
     stated = {}
     for path in sorted(root.glob("crates/*/proofs/**/*.antt")):
         if path.name in ("Answers.antt", "Invariants.antt", "Proof.antt", "Lib.antt") and path.parent.name != "proofs":
             continue
         crate = path.relative_to(root).parts[1]
-        for m in re.finditer(r"^(?:abbrev |unfoldable )?pub (\w[^\s:]*) : (.*(?:\n    .*)*)", path.read_text(), re.M):
-            stated.setdefault((crate, m.group(1)), []).append(" ".join(m.group(2).split()))
+        for m in re.finditer(r"^( *)(?:abbrev |unfoldable )?pub (\w[^\s:]*) : (.*(?:\n\1    .*)*)", path.read_text(), re.M):
+            stated.setdefault((crate, m.group(2)), []).append(" ".join(m.group(3).split()))
     return stated
 
 
@@ -69,6 +70,6 @@ changed = [(k, old[k], new[k]) for k in sorted(old) if k in new and sorted(old[k
 gone = [k for k in sorted(old) if k not in new]
 print(f"\n### Lemmas of proofs/: {len(changed)} changed, {len(gone)} gone\n")
 for (crate, name), a, b in changed:
-    row(f"{crate} {name}", " · ".join(x for x in a if x not in b), " · ".join(x for x in b if x not in a))
+    row(f"{crate} {name}", " · ".join(x for x in a if x not in b) or "none besides", " · ".join(x for x in b if x not in a) or "none besides")
 for crate, name in gone:
     print(f"- gone: {crate} {name}")
