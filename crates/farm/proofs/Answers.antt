@@ -15,8 +15,8 @@ use Rattle.number.proofs.Filled.{length_slots}
 use Rattle.verdict.specs.View.{is_count}
 use Rattle.group.specs.Batch.{slot_of}
 use Rattle.farm.specs.Directory.{section_count, box_sections, well_formed}
-use Rattle.farm.specs.FarmFile.{volume_there, count_number, plane_count, sized, boxes_flagged, numbers_finite, in_view, checked_file, farm_file, slot_count, Listing, listing, listed, farm_file_call}
-use Rattle.farm.specs.Steps.{Ready, sized_planes, boxes_seen, is_yes, FileAnswered}
+use Rattle.farm.specs.FarmFile.{volume_there, count_number, plane_count, sized, boxes_flagged, numbers_finite, in_view, checked_file, farm_file, slot_count, Listing, listing, listed, farm_file_call, sized_planes}
+use Rattle.farm.specs.Steps.{Ready, boxes_seen, is_yes, FileAnswered}
 use Rattle.farm.proofs.SectionsLeft.{as_many}
 use Rattle.farm.proofs.Placed.{at_most}
 

@@ -38,6 +38,10 @@ unfoldable pub sized : List ℕ → Bool
 unfolding boxes_sized
 sized b = eqb (volume_section b).size (8 * volume_length (plane_count b)) && boxes_sized b
 
+-- how many planes a well-formed file has, by the checks of its count and of its sizes
+abbrev pub sized_planes : List ℕ → Outcome ℕ
+sized_planes b = unless (volume_there b) (refused 10) (unless (is_count (count_number b)) (refused 12) (unless (sized b) (refused 10) (outcome (plane_count b))))
+
 -- ---- the boxes
 
 -- the flag of every box is 0 or 1

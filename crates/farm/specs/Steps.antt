@@ -1,9 +1,10 @@
--- What the private functions of this crate ask of a file, and what they promise one another. Definitions only; no contract of a public function speaks of them.
+-- What the private functions of this crate ask of a file and of a text, and what they promise one another. Definitions only; no contract of a public function speaks of them.
 use Rattle.std.specs.Prelude.{ℕ, ◌+◌, ◌-◌, ◌≤◌, ◌≡◌, Bool, true, List, map, eqb, length, take, Float}
 use Rattle.number.specs.Answer.{Outcome, refused, outcome, unless}
 use Rattle.verdict.specs.View.{is_count}
 use Rattle.farm.specs.Directory.{section_count, box_sections, file_numbers, InFront, well_formed}
-use Rattle.farm.specs.FarmFile.{volume_there, count_number, plane_count, sized, boxes_flagged, numbers_finite, in_view, farm_file, slot_count, listing, farm_file_call}
+use Rattle.farm.specs.FarmFile.{count_number, sized, boxes_flagged, numbers_finite, in_view, farm_file, slot_count, listing, farm_file_call}
+use Rattle.farm.specs.Text.{inserted}
 
 -- ---- a file
 
@@ -18,10 +19,6 @@ pub record Ready (b : List ℕ) : Type 0 where
   pub measured : Measured b
   pub flags : boxes_flagged b ≡ true
   pub finite : numbers_finite b ≡ true
-
--- how many planes a well-formed file has, by the checks of its count and of its sizes
-abbrev pub sized_planes : List ℕ → Outcome ℕ
-sized_planes b = unless (volume_there b) (refused 10) (unless (is_count (count_number b)) (refused 12) (unless (sized b) (refused 10) (outcome (plane_count b))))
 
 -- what comes of a file that is measured, by the checks that are left
 abbrev pub boxes_seen : List ℕ → Outcome (List Bool)
@@ -46,6 +43,10 @@ pub record JudgedBy (b out : List ℕ) (answer : Outcome ℕ) (numbers : List Fl
   pub kept : (n : ℕ) → answer ≡ outcome n → InFront (file_numbers b) numbers
 
 -- ---- a text
+
+-- what putting bytes from a place of a text on answers and leaves, where there is room for them
+abbrev pub Put : List ℕ → ℕ → List ℕ → ℕ → List ℕ → Type 0
+Put text at s place left = (place ≡ at + length s) × (left ≡ inserted text at s)
 
 -- the most bytes of a line: two digits, " yes" and its end
 abbrev pub line_room : ℕ

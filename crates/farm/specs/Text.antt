@@ -1,5 +1,5 @@
--- Lines as bytes in ASCII, and what is pushed to a text of them. Definitions only.
-use Rattle.std.specs.Prelude.{ℕ, suc, ◌+◌, ◌*◌, ◌/◌, ◌%◌, ◌≤◌, ◌<◌, cond, ◌≡◌, List, [], ◌∷◌, ◌++◌, ltb, length}
+-- Lines as bytes in ASCII, what is put into a text of them, and what is pushed to one. Definitions only.
+use Rattle.std.specs.Prelude.{ℕ, suc, ◌+◌, ◌-◌, ◌*◌, ◌/◌, ◌%◌, ◌≤◌, ◌<◌, Bool, cond, ◌≡◌, List, [], ◌∷◌, ◌++◌, ltb, leb, length, take, drop, replicate}
 use Rattle.number.specs.Limits.{most_planes}
 use Rattle.farm.specs.FarmFile.{slot_count}
 
@@ -20,9 +20,25 @@ unfoldable pub refused_line : ℕ → List ℕ
 unfolding decimal
 refused_line n = refused_word ++ decimal n ++ (10 ∷ [])
 
+-- what a text holds after bytes were put there from a place on
+abbrev pub inserted : List ℕ → ℕ → List ℕ → List ℕ
+inserted text at s = take at text ++ s ++ drop (at + length s) text
+
+-- it has room for them
+abbrev pub has_room : List ℕ → ℕ → List ℕ → Bool
+has_room text at s = leb (at + length s) (length text)
+
+-- What putting bytes there answers, the place behind them, and leaves. Without room for them it leaves the text alone, and the place.
+abbrev pub Puts : List ℕ → ℕ → List ℕ → ℕ → List ℕ → Type 0
+Puts text at s place left = (place ≡ cond (has_room text at s) (at + length s) at) × (left ≡ cond (has_room text at s) (inserted text at s) text)
+
 -- the bytes that a text has room for: for each box those of the longest line of any program
 abbrev pub text_room : ℕ
 text_room = slot_count * (2 + 4 + 3 * most_planes + 10 + 1)
+
+-- a text's lines, and zeros in the room behind them
+abbrev pub padded : List ℕ → List ℕ
+padded s = s ++ replicate (text_room - length s) 0
 
 -- Bytes stand behind those that a text had, if it has room for them.
 pub record Added (text s left : List ℕ) : Type 0 where

@@ -3,8 +3,8 @@ ghost use Rattle.std.specs.Prelude.{◌≡◌, true, ◌++◌, ◌/◌, ◌<◌,
 ghost use Rattle.number.specs.Answer.{outcome_of, outcome, refused, number_of};
 ghost use Rattle.verdict.specs.View.{is_count};
 ghost use Rattle.farm.specs.Directory.{section_count, section_at, numbers_of, file_numbers, InFront};
-ghost use Rattle.farm.specs.FarmFile.{count_number, plane_count, boxes_sized, sized, slot_count, listing, listed};
-ghost use Rattle.farm.specs.Steps.{sized_planes, boxes_seen};
+ghost use Rattle.farm.specs.FarmFile.{count_number, plane_count, boxes_sized, sized, slot_count, listing, listed, sized_planes};
+ghost use Rattle.farm.specs.Steps.{boxes_seen};
 
 use crate::directory::{Directory, SLOT_COUNT};
 use group::batch::intersects_bboxes;

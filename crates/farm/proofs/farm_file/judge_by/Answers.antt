@@ -11,8 +11,8 @@ use lib.Ieee.{Float}
 use Rattle.number.specs.Limits.{largest_file}
 use Rattle.number.specs.Answer.{Outcome, refused, outcome, and_then}
 use Rattle.farm.specs.Directory.{well_formed, file_numbers, InFront}
-use Rattle.farm.specs.FarmFile.{checked_file, slot_count, listing, listed, farm_file_call}
-use Rattle.farm.specs.Steps.{sized_planes, boxes_seen, JudgedBy}
+use Rattle.farm.specs.FarmFile.{checked_file, slot_count, listing, listed, farm_file_call, sized_planes}
+use Rattle.farm.specs.Steps.{boxes_seen, JudgedBy}
 use Rattle.farm.proofs.Answers.{planes_decide}
 use Rattle.farm.proofs.farm_file.judge_by.Goals as goal
 

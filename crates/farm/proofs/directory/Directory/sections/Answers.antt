@@ -14,8 +14,7 @@ use Rattle.number.specs.Bytes.{f64_at}
 use Rattle.verdict.specs.View.{volume_length, whole_part, is_count, plane_count_of}
 use Rattle.farm.specs.declared.directory.Section.{Section}
 use Rattle.farm.specs.Directory.{volume_section}
-use Rattle.farm.specs.FarmFile.{volume_there, count_number, plane_count, boxes_sized, sized}
-use Rattle.farm.specs.Steps.{sized_planes}
+use Rattle.farm.specs.FarmFile.{volume_there, count_number, plane_count, boxes_sized, sized, sized_planes}
 use Rattle.farm.proofs.Answers.{passed, planes_measured}
 use Rattle.farm.proofs.directory.Directory.sections.Goals as goal
 
