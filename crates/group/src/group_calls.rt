@@ -1,12 +1,22 @@
 // The operation on groups of boxes, over lent slices.
-ghost use Rattle.std.specs.Prelude.{◌≡◌};
+ghost use Rattle.std.specs.Prelude.{◌≡◌, length};
 ghost use Rattle.number.specs.Answer.{reply};
+ghost use Rattle.number.specs.Limits.{box_length};
 ghost use Rattle.group.specs.Group.{group_call};
 
 use crate::group::{Boxes, MOST_NUMBERS};
 use number::answer::Refusal;
 use number::limits::BOX_LENGTH;
-use number::slice;
+
+// The numbers of a record to another's place, one by one: at once they are copied by a call of the C library, which the archive does without.
+fn copy_record(from: &[f64], to: &mut [f64])
+    requires { (length from.now ≡ box_length) × (length to.old ≡ box_length) }
+    ensures { to.new ≡ from.now }
+{
+    for i in 0..BOX_LENGTH {
+        to[i] = from[i];
+    }
+}
 
 // The size of a group that needs no combining.
 const SINGLE: usize = 1;
@@ -32,7 +42,7 @@ pub fn combine_group(boxes: &[f64], out: &mut [f64]) -> Result<(), Refusal>
         return Err(Refusal::Kind);
     }
     if group.count == SINGLE {
-        slice::store(boxes, out);
+        copy_record(boxes, out);
         return Ok(());
     }
     group.combine().store(out);

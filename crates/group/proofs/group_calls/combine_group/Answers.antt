@@ -11,6 +11,7 @@ use Rattle.verdict.specs.BBox.{box_of, numbers}
 use native.Mathlib.Omega.{arith}
 use lib.ListN.{length, drop}
 use Rattle.number.specs.Limits.{box_length}
+use Rattle.number.proofs.Stores.{same_room}
 use Rattle.group.proofs.Ways.{single, several, empty, long, uneven, no_room, no_flag, written}
 use Rattle.group.proofs.group_calls.combine_group.Goals as goal
 
@@ -44,8 +45,12 @@ returns-then-not-all_flagged c =
 pub returns-then-group-eq-SINGLE : goal.returns-then-group-eq-SINGLE
 returns-then-group-eq-SINGLE c =
     let s = c.args.boxes.now in
+    let one : length s ≡ box_length = omega (arith, c.of-group.result.whole, ap length c.of-group.ensures.0, c.if-group-eq-SINGLE.true) in
     written _ _ c.if-boxes-eq0.false c.if-boxes-gt-MOST_NUMBERS.false c.if-boxes-ne0.false c.if-out-ne-BOX_LENGTH.false _ (flags _ c.of-group.ensures c.all_flagged.ensures) (ap not c.if-not-all_flagged.false) _ _
-    (omega (arith, c.of-group.result.whole, ap length c.of-group.ensures.0, c.if-group-eq-SINGLE.true)) c.store.ensures (single s (sym c.of-group.ensures.1 ∙ c.if-group-eq-SINGLE.true) c.if-boxes-ne0.false)
+    one (c.copy_record.ensures ∙ sym (same_room s c.args.out.now (one ∙ sym c.if-out-ne-BOX_LENGTH.false))) (single s (sym c.of-group.ensures.1 ∙ c.if-group-eq-SINGLE.true) c.if-boxes-ne0.false)
+
+pub copy_record-requires : goal.copy_record-requires
+copy_record-requires c = (omega (arith, c.of-group.result.whole, ap length c.of-group.ensures.0, c.if-group-eq-SINGLE.true), c.if-out-ne-BOX_LENGTH.false)
 
 pub combine-requires : goal.combine-requires
 combine-requires c = omega (arith, c.of-group.result.whole, ap length c.of-group.ensures.0, c.if-boxes-eq0.false, c.if-group-eq-SINGLE.false)
@@ -53,4 +58,4 @@ combine-requires c = omega (arith, c.of-group.result.whole, ap length c.of-group
 pub returns : goal.returns
 returns c =
     written _ _ c.if-boxes-eq0.false c.if-boxes-gt-MOST_NUMBERS.false c.if-boxes-ne0.false c.if-out-ne-BOX_LENGTH.false _ (flags _ c.of-group.ensures c.all_flagged.ensures) (ap not c.if-not-all_flagged.false) _ _
-    refl c.store-2.ensures (joined _ c.of-group.ensures c.combine.ensures (omega (arith, c.of-group.result.whole, ap length c.of-group.ensures.0, c.if-boxes-eq0.false, c.if-group-eq-SINGLE.false)))
+    refl c.store.ensures (joined _ c.of-group.ensures c.combine.ensures (omega (arith, c.of-group.result.whole, ap length c.of-group.ensures.0, c.if-boxes-eq0.false, c.if-group-eq-SINGLE.false)))
