@@ -24,7 +24,7 @@ pub(crate) const NEAR_PLANE: u32 = 4;
 pub(crate) const RAY_COUNT: u32 = 4;
 
 // Where plane i begins, behind the count: a plane is four numbers.
-fn plane_start(i: u32) -> usize
+pub fn plane_start(i: u32) -> usize
     ensures { result ≡ plane_start i }
 {
     1 + i as usize * 4

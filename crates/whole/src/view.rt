@@ -15,7 +15,7 @@ const NORMAL_LIMIT: u32 = 128;
 const DISTANCE_LIMIT: u32 = 16_777_216;
 
 // How many planes the number in front says there are; below 0 it says that there are none.
-fn count_of(x: i32) -> u32
+pub fn count_of(x: i32) -> u32
     ensures { result ≡ count_of x }
 {
     u32::try_from(x).unwrap_or(0)
