@@ -1,6 +1,6 @@
 -- `round` where it is known how many digits it drops, and the nearest whole number of a fraction that is known only to lie between two others.
 -- Assumes nothing.
-use Rattle.std.proofs.Common.{◌≡◌, ℕ, zero, suc, ◌+◌, ◌-◌, ◌*◌, ◌/◌, ◌%◌, ◌^◌, ◌<◌, ◌≤◌, Bool, not, T, eqb, sym, refl, ap, ◌∙◌, subst, le_of_eq, lt_of_lt_of_le, mul-le-mul_right, mod-lt, zero-lt-suc, div-lt_iff_lt-mul, one-mul, div-add-mod', le-div_iff_mul-le, arith, lit<, eqb→eq, leb→le, pow_pos, shl_exact}
+use Rattle.std.proofs.Common.{◌≡◌, ℕ, zero, suc, ◌+◌, ◌-◌, ◌*◌, ◌/◌, ◌%◌, ◌^◌, ◌<◌, ◌≤◌, Bool, not, T, eqb, sym, refl, ap, ◌∙◌, subst, le_of_eq, lt_of_lt_of_le, mul-le-mul_right, mod-lt, zero-lt-suc, div-lt_iff_lt-mul, one-mul, div-add-mod', le-div_iff_mul-le, arith, lit<, eqb→eq, leb→le, pow_pos, pow_mono, shl_exact}
 use Prim.Native.Nat.{compare, Ordering}
 use native.Mathlib.Nat.{pow-succ'}
 use native.Mathlib.Decide.{dec_lt}
@@ -135,6 +135,9 @@ twice_half d D = ap (λ (i : ℕ). 2 ^ i) (whole d D) ∙ pow-succ' 2 (d - 1)
 
 pub half_bit : (d : ℕ) → 0 < d → d < 64 → 1 * 2 ^ (d - 1) % 2 ^ 64 ≡ 2 ^ (d - 1)
 half_bit d a b = shl_exact 1 (d - 1) 64 (lit< tt) (omega arith) ∙ one-mul (2 ^ (d - 1))
+
+pub half_bit_le : (d : ℕ) → 0 < d → d < 64 → 1 * 2 ^ (d - 1) % 2 ^ 64 ≤ 2 ^ 62
+half_bit_le d a b = subst (λ (i : ℕ). i ≤ 2 ^ 62) (sym (half_bit d a b)) (pow_mono {i = d - 1} {j = 62} (omega arith))
 
 pub nearest_shift : (m d : ℕ) → 0 < d → (m + (2 ^ (d - 1) - 1) + m / 2 ^ d % 2) / 2 ^ d ≡ closest m (2 ^ d)
 nearest_shift m d D = go (2 ^ d) (2 ^ (d - 1)) (twice_half d D) (pow_pos (d - 1))

@@ -38,10 +38,10 @@ module _ (b : List ℕ) (i n : ℕ) where
   not_there h = sym (ap (λ (t : Bool). cond t (little_endian (take n (drop i b))) 0) (lt-leb _ _ h))
 
 -- what is read of n bytes, where they are all there, and 0 where not
-pub read : (b : List ℕ) (i n x : ℕ) (r : Option (List ℕ)) → MatchOption r (length b < i + suc n) (λ w. (i + suc n ≤ length b) × (w ≡ take (suc n) (drop i b)))
-    → MatchOption r (x ≡ 0) (λ w. x ≡ sum_through (λ k. byte_worth k (get_or w k 0)) n) → x ≡ word_at (suc n) b i
-read b i n x None h e = e ∙ not_there b i (suc n) h
-read b i n x (Some w) h e =
+pub read : (b : List ℕ) (i n x none : ℕ) (r : Option (List ℕ)) → none ≡ 0 → MatchOption r (length b < i + suc n) (λ w. (i + suc n ≤ length b) × (w ≡ take (suc n) (drop i b)))
+    → MatchOption r (x ≡ none) (λ w. x ≡ sum_through (λ k. byte_worth k (get_or w k 0)) n) → x ≡ word_at (suc n) b i
+read b i n x none None o h e = e ∙ o ∙ not_there b i (suc n) h
+read b i n x none (Some w) o h e =
     e ∙ in_places w n
     ∙ ap (λ (l : List ℕ). little_endian l) (take_all (suc n) w (omega (arith, ap length h.1, length-take-le (suc n) (drop i b), length-drop i b)) ∙ h.1)
     ∙ is_there b i (suc n) h.0
@@ -53,15 +53,17 @@ chunk_at n (suc k) l zero d h = ap (λ (i : ℕ). take n (drop i l)) {x = 0} {y 
 chunk_at n (suc k) l (suc j) d h =
     chunk_at n k (drop n l) j d (omega arith) ∙ ap (take n) (drop-drop (n * j) n l) ∙ ap (λ (i : ℕ). take n (drop i l)) {x = n + n * j} {y = n * suc j} (omega arith)
 
-pub eighth : (b : List ℕ) (words : List (List ℕ)) (i j x : ℕ) (d : List ℕ) → words ≡ first_chunks 8 (length (drop i b) / 8) (drop i b)
-    → i + 8 * j + 8 ≤ length b → x ≡ sum_through (λ k. byte_worth k (get_or (get_or words j d) k 0)) 7 → x ≡ word_at 8 b (i + 8 * j)
-eighth b words i j x d p h e =
-    let word : get_or words j d ≡ take 8 (drop (i + 8 * j) b) =
-    ap (λ (l : List (List ℕ)). get_or l j d) p ∙ chunk_at 8 (length (drop i b) / 8) (drop i b) j d (omega (arith, length-drop i b))
-    ∙ ap (take 8) (drop-drop (8 * j) i b) in
+pub eighth : (b : List ℕ) (words : List (List ℕ)) (i j k x : ℕ) (d : List ℕ) → j ≡ k → words ≡ first_chunks 8 (length (drop i b) / 8) (drop i b)
+    → i + 8 * k + 8 ≤ length b → x ≡ sum_through (λ n. byte_worth n (get_or (get_or words j d) n 0)) 7 → x ≡ word_at 8 b (i + 8 * k)
+eighth b words i j k x d o p h e =
+    let chunks = first_chunks 8 (length (drop i b) / 8) (drop i b) in
+    let word : get_or words j d ≡ take 8 (drop (i + 8 * k) b) =
+    ap (λ (l : List (List ℕ)). get_or l j d) p ∙ ap (λ (n : ℕ). get_or chunks n d) o
+    ∙ chunk_at 8 (length (drop i b) / 8) (drop i b) k d (omega (arith, length-drop i b))
+    ∙ ap (take 8) (drop-drop (8 * k) i b) in
     e ∙ in_places (get_or words j d) 7
-    ∙ ap (λ (l : List ℕ). little_endian l) (take_all 8 (get_or words j d) (omega (arith, ap length word, length-take-le 8 (drop (i + 8 * j) b), length-drop (i + 8 * j) b)) ∙ word)
-    ∙ is_there b (i + 8 * j) 8 h
+    ∙ ap (λ (l : List ℕ). little_endian l) (take_all 8 (get_or words j d) (omega (arith, ap length word, length-take-le 8 (drop (i + 8 * k) b), length-drop (i + 8 * k) b)) ∙ word)
+    ∙ is_there b (i + 8 * k) 8 h
 
 -- ---- numbers, one after the other
 

@@ -15,8 +15,8 @@ pub fn all_finite(s: &[f64]) -> bool
     ensures { result ≡ all_finite s.now }
 {
     let mut all = true;
-    for x in s {
-        all &= *x * 0.0 == 0.0;
+    for &x in s {
+        all &= x * 0.0 == 0.0;
     }
     all
 }

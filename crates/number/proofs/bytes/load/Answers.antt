@@ -15,4 +15,4 @@ loop-i-preserved c =
     let whole : take (length given.bytes.now - given.at) (drop given.at given.bytes.now) ≡ drop given.at given.bytes.now = take_all _ _ (omega (arith, length-drop given.at given.bytes.now)) in
     let front : c.as_chunks.result.0.now ≡ first_chunks 8 (length (drop given.at given.bytes.now) / 8) (drop given.at given.bytes.now) = rw whole at c.as_chunks.ensures.front in
     one_more given.bytes.now given.at given.out.now l.i l.out _ (omega arith) l.invariant
-    (c.from_bits.ensures ∙ ap (of_bits binary64) (eighth given.bytes.now c.as_chunks.result.0.now given.at l.i _ _ front (omega arith) c.from_le_bytes.ensures))
+    (c.from_bits.ensures ∙ ap (of_bits binary64) (eighth given.bytes.now c.as_chunks.result.0.now given.at _ l.i _ _ (omega arith) front (omega arith) c.from_le_bytes.ensures))

@@ -1,5 +1,5 @@
 -- `number::order::is_finite` meets its contract by cases. Assumes nothing.
-use Rattle.std.proofs.Common.{◌≡◌, refl, ◌∙◌}
+use Rattle.std.proofs.Common.{◌≡◌, refl, ◌∙◌, rules}
 use Rattle.std.specs.Float.{float_is_finite}
 use lib.Ieee.{Float, nan, inf, fin}
 use lib.Ieee.Scale.{finite}
@@ -12,4 +12,4 @@ same (inf s) = refl
 same (fin s m e) = refl
 
 pub returns : goal.returns
-returns c = c.is_finite.ensures.value ∙ same c.args.x
+returns c = c.is_finite.ensures.value ∙ same _ ∙ search rules
