@@ -40,7 +40,8 @@ fn bytes_of_numbers(numbers: &[f64]) -> Text
 {
     let mut text = Text::new();
     for x in numbers {
-        text.push(&to_bits(*x).to_le_bytes());
+        let bits = to_bits(*x);
+        text.push(&bits.to_le_bytes());
     }
     text
 }

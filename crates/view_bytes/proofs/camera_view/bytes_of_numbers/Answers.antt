@@ -17,7 +17,7 @@ pub loop-x-preserved : goal.loop-x-preserved
 loop-x-preserved c =
     let s = c.args.numbers.now in
     added_meant _ _ (next s c.loop-x.x-index (omega arith))
-    (added_then c.loop-x.invariant (added_meant _ _ (c.to_le_bytes.ensures ∙ are_bytes _ _ c.to_bits.ensures) c.push.ensures.added))
+    (added_then c.loop-x.invariant (added_meant _ _ (c.to_le_bytes.ensures ∙ are_bytes _ _ (omega (arith, c.to_bits-bits.ensures))) c.push.ensures.added))
 
 pub returns : goal.returns
 returns c =
