@@ -97,6 +97,7 @@ impl Text {
     }
 
     // Bytes behind the others, where there is room for them.
+    #[tactic(auto, using(crate::proofs::Texts::kept_by_put, crate::proofs::Texts::pushed_by_put))]
     pub fn push(&mut self, bytes: &[u8])
         ensures { Pushed self.old bytes.now self.new }
     {

@@ -1,5 +1,5 @@
 -- Bytes as whole numbers, and numbers put from bytes one after the other. Assumes nothing.
-use Rattle.std.proofs.Common.{◌≡◌, ℕ, zero, suc, ◌+◌, ◌*◌, ◌<◌, ◌≤◌, Bool, cond, List, [], ◌∷◌, ◌++◌, length, get_or, take, drop, set, None, Option, Some, MatchOption, sym, refl, ap, ◌∙◌, append_assoc, add-one, arith, drop-cons, le-leb, take_all, length-take-le, length-drop, drop-drop, ◌/◌}
+use Rattle.std.proofs.Common.{◌≡◌, ℕ, zero, suc, ◌+◌, ◌-◌, ◌*◌, ◌<◌, ◌≤◌, Bool, cond, List, [], ◌∷◌, ◌++◌, length, get_or, take, drop, set, None, Option, Some, MatchOption, sym, refl, ap, ◌∙◌, append_assoc, add-one, arith, drop-cons, le-leb, take_all, length-take-le, length-drop, drop-drop, ◌/◌}
 use borrow.Author.Tests.{lt-leb}
 use native.Mathlib.Nat.{pow-succ'}
 use Rattle.std.specs.Simd.{first_chunks}
@@ -64,6 +64,15 @@ eighth b words i j k x d o p h e =
     e ∙ in_places (get_or words j d) 7
     ∙ ap (λ (l : List ℕ). little_endian l) (take_all 8 (get_or words j d) (omega (arith, ap length word, length-take-le 8 (drop (i + 8 * k) b), length-drop (i + 8 * k) b)) ∙ word)
     ∙ is_there b (i + 8 * k) 8 h
+
+-- the same by what the law of chunks says of them, at a place of as many numbers as there is room for
+pub eighth_read : (b : List ℕ) (words : List (List ℕ)) (i j n x : ℕ) (d : List ℕ)
+    → words ≡ first_chunks 8 (length (take (length b - i) (drop i b)) / 8) (take (length b - i) (drop i b))
+    → i ≤ length b → n ≤ (length b - i) / 8 → j < n → x ≡ sum_through (λ k. byte_worth k (get_or (get_or words j d) k 0)) 7 → x ≡ word_at 8 b (i + 8 * j)
+eighth_read b words i j n x d p g m l e =
+    let whole : take (length b - i) (drop i b) ≡ drop i b = take_all _ _ (omega (arith, length-drop i b)) in
+    let front : words ≡ first_chunks 8 (length (drop i b) / 8) (drop i b) = rw whole at p in
+    eighth b words i j j x d refl front (omega arith) e
 
 -- ---- numbers, one after the other
 
