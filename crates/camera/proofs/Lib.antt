@@ -1,4 +1,3 @@
 -- The laws that the proofs of this crate cite.
-pub mod Inverse
 pub mod Literals
 pub mod Accepted

@@ -126,6 +126,7 @@ impl Camera {
 
     // The camera of a view and a projection, matrices that are read where they are lent. A lens of twice the focal length with apertures
     // twice as large has the same projection, so that the focal length has to be told besides.
+    #[tactic(auto, using(matrix::proofs::Composed::inverse_from, matrix::proofs::Literals::singular_bits), unfolding(matrix::specs::Inverse::adjugate))]
     pub fn set_from_view_and_projection(
         view: &[f64],
         projection: &[f64],

@@ -63,7 +63,7 @@ pub fn transform_dir(m: &[f64], v: &[f64], out: &mut [f64]) -> Result<(), Refusa
 }
 
 // The determinant of the first three rows and columns.
-#[tactic(auto, using(crate::proofs::Given::was_given, crate::proofs::Given::was_refused, std::proofs::lemmas::Result::err_from_is_err_and), unfolding(crate::specs::MatrixCalls::determinant_call, number::specs::Answer::answering))]
+#[tactic(auto, unfolding(crate::specs::MatrixCalls::determinant_call, number::specs::Answer::answering))]
 pub fn determinant3(m: &[f64]) -> Result<f64, Refusal>
     ensures { outcome_of result ≡ determinant_call m.now }
 {

@@ -68,6 +68,7 @@ pub fn midpoint(range: &[f64], out: &mut [f64]) -> Result<(), Refusal>
 }
 
 // The square of the distance between a point and a range.
+#[tactic(auto, unfolding(crate::specs::RangeCalls::distance_squared_call, number::specs::Answer::answering))]
 pub fn distance_squared(range: &[f64], p: &[f64]) -> Result<f64, Refusal>
     ensures { outcome_of result ≡ distance_squared_call range.now p.now }
 {

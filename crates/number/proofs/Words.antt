@@ -53,26 +53,20 @@ chunk_at n (suc k) l zero d h = ap (λ (i : ℕ). take n (drop i l)) {x = 0} {y 
 chunk_at n (suc k) l (suc j) d h =
     chunk_at n k (drop n l) j d (omega arith) ∙ ap (take n) (drop-drop (n * j) n l) ∙ ap (λ (i : ℕ). take n (drop i l)) {x = n + n * j} {y = n * suc j} (omega arith)
 
-pub eighth : (b : List ℕ) (words : List (List ℕ)) (i j k x : ℕ) (d : List ℕ) → j ≡ k → words ≡ first_chunks 8 (length (drop i b) / 8) (drop i b)
-    → i + 8 * k + 8 ≤ length b → x ≡ sum_through (λ n. byte_worth n (get_or (get_or words j d) n 0)) 7 → x ≡ word_at 8 b (i + 8 * k)
-eighth b words i j k x d o p h e =
+pub eighth : (b : List ℕ) (words : List (List ℕ)) (i k n x : ℕ) (d : List ℕ)
+    → words ≡ first_chunks 8 (length (take (length b - i) (drop i b)) / 8) (take (length b - i) (drop i b))
+    → i ≤ length b → n ≤ (length b - i) / 8 → k < n → x ≡ sum_through (λ n. byte_worth n (get_or (get_or words k d) n 0)) 7 → x ≡ word_at 8 b (i + 8 * k)
+eighth b words i k n x d p g m h e =
     let chunks = first_chunks 8 (length (drop i b) / 8) (drop i b) in
-    let word : get_or words j d ≡ take 8 (drop (i + 8 * k) b) =
-    ap (λ (l : List (List ℕ)). get_or l j d) p ∙ ap (λ (n : ℕ). get_or chunks n d) o
+    let whole : take (length b - i) (drop i b) ≡ drop i b = take_all _ _ (omega (arith, length-drop i b)) in
+    let front : words ≡ chunks = rw whole at p in
+    let word : get_or words k d ≡ take 8 (drop (i + 8 * k) b) =
+    ap (λ (l : List (List ℕ)). get_or l k d) front
     ∙ chunk_at 8 (length (drop i b) / 8) (drop i b) k d (omega (arith, length-drop i b))
     ∙ ap (take 8) (drop-drop (8 * k) i b) in
-    e ∙ in_places (get_or words j d) 7
-    ∙ ap (λ (l : List ℕ). little_endian l) (take_all 8 (get_or words j d) (omega (arith, ap length word, length-take-le 8 (drop (i + 8 * k) b), length-drop (i + 8 * k) b)) ∙ word)
-    ∙ is_there b (i + 8 * k) 8 h
-
--- the same by what the law of chunks says of them, at a place of as many numbers as there is room for
-pub eighth_read : (b : List ℕ) (words : List (List ℕ)) (i j n x : ℕ) (d : List ℕ)
-    → words ≡ first_chunks 8 (length (take (length b - i) (drop i b)) / 8) (take (length b - i) (drop i b))
-    → i ≤ length b → n ≤ (length b - i) / 8 → j < n → x ≡ sum_through (λ k. byte_worth k (get_or (get_or words j d) k 0)) 7 → x ≡ word_at 8 b (i + 8 * j)
-eighth_read b words i j n x d p g m l e =
-    let whole : take (length b - i) (drop i b) ≡ drop i b = take_all _ _ (omega (arith, length-drop i b)) in
-    let front : words ≡ first_chunks 8 (length (drop i b) / 8) (drop i b) = rw whole at p in
-    eighth b words i j j x d refl front (omega arith) e
+    e ∙ in_places (get_or words k d) 7
+    ∙ ap (λ (l : List ℕ). little_endian l) (take_all 8 (get_or words k d) (omega (arith, ap length word, length-take-le 8 (drop (i + 8 * k) b), length-drop (i + 8 * k) b)) ∙ word)
+    ∙ is_there b (i + 8 * k) 8 (omega arith)
 
 -- ---- numbers, one after the other
 

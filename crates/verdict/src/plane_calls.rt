@@ -49,6 +49,7 @@ pub fn from_equation(equation: &[f64], out: &mut [f64]) -> Result<(), Refusal>
 }
 
 // The signed distance of a point from a plane.
+#[tactic(auto, unfolding(crate::specs::PlaneCalls::distance_call, number::specs::Answer::answering))]
 pub fn distance(plane: &[f64], p: &[f64]) -> Result<f64, Refusal>
     ensures { outcome_of result ≡ distance_call plane.now p.now }
 {
@@ -63,6 +64,7 @@ pub fn on_positive_side(plane: &[f64], p: &[f64]) -> Result<bool, Refusal>
 }
 
 // A plane moved by a matrix. A singular matrix is refused.
+#[tactic(auto, unfolding(crate::specs::PlaneCalls::transformed_plane_call, number::specs::Answer::leaving))]
 pub fn transformed(plane: &[f64], m: &[f64], out: &mut [f64]) -> Result<(), Refusal>
     ensures { reply result out.new ≡ transformed_plane_call plane.now m.now out.old }
 {

@@ -1,7 +1,7 @@
 -- `number::bytes::load` meets its contract: so many numbers from the bytes are in front. Assumes nothing.
 use Rattle.std.proofs.Common.{ap, ◌∙◌, arith}
 use lib.Ieee.{binary64, of_bits}
-use Rattle.number.proofs.Words.{none_filled, one_more, eighth_read}
+use Rattle.number.proofs.Words.{none_filled, one_more, eighth}
 use Rattle.number.proofs.bytes.load.Goals as goal
 
 pub loop-i-init : goal.loop-i-init
@@ -11,4 +11,4 @@ pub loop-i-preserved : goal.loop-i-preserved
 loop-i-preserved c =
     let l = c.loop-i in
     let given = c.args in
-    one_more given.bytes.now given.at given.out.now l.i l.out _ (omega arith) l.invariant (c.from_bits.ensures ∙ ap (of_bits binary64) (search (eighth_read, arith)))
+    one_more given.bytes.now given.at given.out.now l.i l.out _ (omega arith) l.invariant (c.from_bits.ensures ∙ ap (of_bits binary64) (search (eighth, arith)))
